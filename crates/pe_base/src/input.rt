@@ -1,0 +1,31 @@
+//! Kinds of user input.
+
+/// A kind of input, in the order of the script's table. Which kinds are activation triggering
+/// (HTML Standard, "activation triggering input event") is told where activation is.
+#[derive(Clone, Copy, Debug, PartialEq, Eq, PartialOrd, Ord, Hash)]
+pub enum InputKind {
+    /// A key went down that is neither Escape nor reserved by the browser.
+    Keydown,
+    /// The Escape key went down.
+    KeydownEscape,
+    /// A key went down that the browser keeps for itself.
+    KeydownReserved,
+    /// A mouse button went down.
+    Mousedown,
+    /// The mouse moved.
+    Mousemove,
+    /// A pointer of type mouse went down.
+    PointerdownMouse,
+    /// A pen went down.
+    PointerdownPen,
+    /// A finger went down.
+    PointerdownTouch,
+    /// A pointer of type mouse went up.
+    PointerupMouse,
+    /// A pen went up.
+    PointerupPen,
+    /// A finger went up.
+    PointerupTouch,
+    /// A touch ended.
+    Touchend,
+}
