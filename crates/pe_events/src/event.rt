@@ -1,0 +1,118 @@
+//! What a line of a script says.
+use pe_base::{InputKind, State};
+use pe_lines::Text;
+
+/// A content attribute of a frame element (HTML Standard, "the iframe element").
+#[derive(Clone, Copy, Debug, PartialEq, Eq)]
+pub enum AttrName {
+    /// The address of the document.
+    Src,
+    /// A document given in the attribute itself.
+    Srcdoc,
+    /// The container policy.
+    Allow,
+    /// The sandbox, whose word `allow-same-origin` alone is looked at.
+    Sandbox,
+    /// Whether the frame may go full screen.
+    Fullscreen,
+}
+
+/// How a prompt is answered.
+#[derive(Clone, Copy, Debug, PartialEq, Eq)]
+pub enum Outcome {
+    /// The permission is granted.
+    Allow,
+    /// It is denied.
+    Block,
+    /// The user does not decide.
+    Dismiss,
+}
+
+/// How long an answer holds.
+#[derive(Clone, Copy, Debug, PartialEq, Eq)]
+pub enum EventLife {
+    /// It never ends.
+    Forever,
+    /// While the top document of the prompt's page is current.
+    Once,
+    /// So many milliseconds.
+    For(u64),
+}
+
+/// What a line of a script says. Objects are named by their numbers, which need not exist.
+#[derive(Drop)]
+pub enum Event<'a> {
+    /// A page is opened at a URL, with these header lines of the response.
+    OpenPage {
+        url: Text<'a>,
+        header: Option<Text<'a>>,
+    },
+    /// A frame is embedded in the document of another, with its attributes; `place` is the document's
+    /// URL where that is not `src`.
+    Embed {
+        parent: u32,
+        src: Option<Text<'a>>,
+        place: Option<Text<'a>>,
+        allow: Option<Text<'a>>,
+        sandbox: Option<Text<'a>>,
+        fullscreen: bool,
+        srcdoc: bool,
+        header: Option<Text<'a>>,
+    },
+    /// A frame is navigated to a URL.
+    Navigate {
+        frame: u32,
+        url: Text<'a>,
+        header: Option<Text<'a>>,
+    },
+    /// An attribute of a frame is set, or removed where there is no value.
+    Attr {
+        frame: u32,
+        name: AttrName,
+        value: Option<Text<'a>>,
+    },
+    /// A frame is closed, with all below it.
+    Close { frame: u32 },
+    /// The user gives an input in a frame.
+    Input { frame: u32, kind: InputKind },
+    /// The activation of a frame's document is asked for.
+    Ask { frame: u32 },
+    /// It is asked whether a frame's document is allowed to use a feature.
+    PolicyOf { frame: u32, feature: Text<'a> },
+    /// The features that a frame's document is allowed to use are asked for.
+    Features { frame: u32 },
+    /// A frame's document makes a call.
+    UseCall { frame: u32, call: Text<'a> },
+    /// A frame's document queries a permission, which makes a status object.
+    Query { frame: u32, feature: Text<'a> },
+    /// A status object is dropped.
+    DropStatus { status: u32 },
+    /// A frame's document requests a permission.
+    Request { frame: u32, feature: Text<'a> },
+    /// The user answers the shown prompt.
+    Answered {
+        prompt: u32,
+        outcome: Outcome,
+        life: EventLife,
+    },
+    /// A permission is set for one origin or a pair of them, for `span` milliseconds or forever.
+    SetState {
+        feature: Text<'a>,
+        first: Text<'a>,
+        second: Option<Text<'a>>,
+        state: State,
+        span: Option<u64>,
+    },
+    /// A frame's document posts a message that delegates a capability to another's; with no origin
+    /// where any may receive it.
+    Post {
+        sender: u32,
+        target: u32,
+        origin: Option<Text<'a>>,
+        capability: Text<'a>,
+    },
+    /// A posted message is delivered.
+    Deliver { message: u32 },
+    /// Time goes on.
+    Tick,
+}

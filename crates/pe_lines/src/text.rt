@@ -1,0 +1,59 @@
+//! A text of a line.
+ghost use Rattle.std.specs.Prelude.{◌≡◌};
+
+use std::marker::Model;
+
+/// Where the bytes of a text stand.
+#[derive(Debug, Drop)]
+enum Place<'a> {
+    /// In the line.
+    Lent(&'a [u8]),
+    /// In memory of the text's own.
+    Owned(Vec<u8>),
+}
+
+/// A text of a line, seen by contracts as the list of its bytes. It borrows the line, or owns its
+/// bytes where an escape was undone or texts were joined.
+#[derive(Debug, Drop)]
+pub struct Text<'a> {
+    place: Place<'a>,
+}
+
+impl<'a> Model for Text<'a> {
+    ghost use Rattle.std.specs.Prelude.{ℕ, List};
+    ghost use Rattle.pe_lines.specs.Texts.{bytes_of};
+
+    ghost Value = { List ℕ };
+
+    ghost view = { λ t. bytes_of t.place };
+}
+
+impl<'a> Text<'a> {
+    /// Owns the given bytes.
+    pub fn of(bytes: Vec<u8>) -> Text<'a>
+        ensures { result ≡ bytes.items }
+    {
+        Text {
+            place: Place::Owned(bytes),
+        }
+    }
+
+    /// Borrows the given bytes.
+    pub fn lent(bytes: &'a [u8]) -> Text<'a>
+        ensures { result ≡ bytes.now }
+    {
+        Text {
+            place: Place::Lent(bytes),
+        }
+    }
+
+    /// The bytes.
+    pub fn as_slice(&self) -> &[u8]
+        ensures { result.now ≡ self.now }
+    {
+        match &self.place {
+            Place::Lent(bytes) => bytes,
+            Place::Owned(bytes) => bytes,
+        }
+    }
+}

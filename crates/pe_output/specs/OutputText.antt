@@ -1,0 +1,77 @@
+-- The output text of a script: a fold over its lines that carries the list of accepted events and nothing else.
+-- The text is this project's own format.
+-- A line of which nothing is told but that it is too long is refused; lines are numbered from 1, and every line counts.
+use Rattle.std.specs.Prelude.{ℕ, ◌+◌, Bool, true, false, ◌||◌, List, [], ◌∷◌, ◌++◌, map, Option, Some, None, if◌then◌else◌}
+use Rattle.std.specs.List.{concat}
+use Rattle.pe_lines.specs.Lines.{told_lines, told_ended_lines}
+use Rattle.pe_events.specs.declared.answer.Answer.TheVariants as answer
+use Rattle.pe_events.specs.declared.cause.Cause.{Cause}
+use Rattle.pe_events.specs.declared.cause.Cause.TheVariants as cause
+use Rattle.pe_events.specs.Texts.{answer_text, change_text}
+use Rattle.pe_events.specs.Timed.{Timed}
+use Rattle.pe_script.specs.Reading.{Reading, Silent, Refusal, Says, reading_of}
+use Rattle.pe_rules.specs.History.{Told, History}
+use Rattle.pe_rules.specs.Replies.{told, reply_in, accepts_in}
+use Rattle.pe_rules.specs.Changes.{changes_before, changes_after}
+
+-- the reading of a line, as far as it is told
+abbrev pub reading_of_told : Option (List ℕ) → Reading
+reading_of_told None = Refusal cause.LineTooLong
+reading_of_told (Some line) = reading_of line
+
+-- the refusal of a line
+abbrev pub refusal_text : ℕ → Cause → List ℕ
+refusal_text number why = answer_text number (answer.Refused why)
+
+-- the text of an accepted event, between what was told before it and what was told with it
+unfoldable pub accepted_text : ℕ → ℕ → Told → Told → Timed → List ℕ
+accepted_text duration number T U e =
+    concat (map change_text (changes_before T e.time))
+    ++ answer_text number (reply_in duration T e.time e.event)
+    ++ concat (map change_text (changes_after T U e.time))
+
+-- the text of an event after a history
+unfoldable pub event_text : ℕ → ℕ → History → Timed → List ℕ
+event_text duration number H e =
+    let T = told duration H in
+    if accepts_in T e then accepted_text duration number T (told duration (e ∷ H)) e
+    else answer_text number (reply_in duration T e.time e.event)
+
+-- the history after an event: with it, where it is accepted
+unfoldable pub history_after : ℕ → History → Timed → History
+history_after duration H e = if accepts_in (told duration H) e then e ∷ H else H
+
+-- the text of a line, after a history
+unfoldable pub line_text : ℕ → ℕ → History → Reading → List ℕ
+line_text duration number H Silent = []
+line_text duration number H (Refusal why) = refusal_text number why
+line_text duration number H (Says e) = event_text duration number H e
+
+-- the history after a line
+unfoldable pub history_after_line : ℕ → History → Reading → History
+history_after_line duration H (Says e) = history_after duration H e
+history_after_line duration H other = H
+
+-- the line is refused
+unfoldable pub is_refused : ℕ → History → Reading → Bool
+is_refused duration H Silent = false
+is_refused duration H (Refusal why) = true
+is_refused duration H (Says e) = if accepts_in (told duration H) e then false else true
+
+-- the text of these lines, the first of which has this number, after a history
+unfoldable pub text_from : ℕ → ℕ → History → List Reading → List ℕ
+text_from duration number H [] = []
+text_from duration number H (line ∷ lines) = line_text duration number H line ++ text_from duration (number + 1) (history_after_line duration H line) lines
+
+-- some line of these is refused
+unfoldable pub refuses_from : ℕ → History → List Reading → Bool
+refuses_from duration H [] = false
+refuses_from duration H (line ∷ lines) = is_refused duration H line || refuses_from duration (history_after_line duration H line) lines
+
+-- the output text of a script
+unfoldable pub output_text : ℕ → List ℕ → List ℕ
+output_text duration script = text_from duration 1 [] (map reading_of_told (told_lines script))
+
+-- the output text of the lines of a script that a line feed ended
+unfoldable pub ended_text : ℕ → List ℕ → List ℕ
+ended_text duration script = text_from duration 1 [] (map reading_of_told (told_ended_lines script))

@@ -1,0 +1,2 @@
+//! The output text of a script.
+#![tactic(auto)]

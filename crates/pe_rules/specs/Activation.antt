@@ -1,0 +1,85 @@
+-- User activation: which documents an input activates, what consumes it, sticky and transient activation.
+-- HTML Standard, section 6.4 "Tracking user activation" ("activation notification", "consume user activation").
+-- The duration is that of the run, in milliseconds.
+use Rattle.std.specs.Prelude.{ℕ, ◌+◌, Bool, true, false, not, ◌&&◌, ◌||◌, ◌==◌, nat_lt, List, ◌∷◌, length, filter, Option, is_some, unwrap_or, option_map}
+use Rattle.std.specs.List.{list_any}
+use Rattle.pe_base.specs.declared.input.InputKind.{InputKind}
+use Rattle.pe_base.specs.declared.input.InputKind.TheVariants.{Keydown, Mousedown, PointerdownMouse, PointerupPen, PointerupTouch, Touchend}
+use Rattle.pe_features.specs.Calls.{call_named, gate_of}
+use Rattle.pe_origin.specs.Origins.{is_same_origin}
+use Rattle.pe_events.specs.declared.event.Event.{Event}
+use Rattle.pe_events.specs.declared.event.Event.TheVariants as event
+use Rattle.pe_events.specs.declared.reason.Verdict.TheVariants as verdict
+use Rattle.pe_events.specs.declared.reason.Via.TheVariants as via
+use Rattle.pe_rules.specs.History.{Item, Said, Judged, Step, Told, when, newest}
+use Rattle.pe_rules.specs.Numbering.{documents_made, makes_message}
+use Rattle.pe_rules.specs.Embedders.{chain, page, page_of_frame}
+use Rattle.pe_rules.specs.Current.{is_current, document_in}
+use Rattle.pe_rules.specs.Origins.{origin_of}
+
+-- an activation triggering input
+abbrev pub triggers : InputKind → Bool
+triggers Keydown = true
+triggers Mousedown = true
+triggers PointerdownMouse = true
+triggers PointerupPen = true
+triggers PointerupTouch = true
+triggers Touchend = true
+triggers kind = false
+
+-- the number is one of the list
+abbrev pub is_one_of : List ℕ → ℕ → Bool
+is_one_of numbers n = list_any (λ x. x == n) numbers
+
+-- an input in document c activates document d: it is current, and above c, or below it and same origin with it
+unfoldable pub reaches : Told → ℕ → ℕ → Bool
+reaches B c d = is_current B d && (is_one_of (chain B c) d || is_one_of (chain B d) c && is_same_origin (origin_of B c) (origin_of B d))
+
+-- the event, after these steps, activates document d
+unfoldable pub activates : Event → Told → ℕ → Bool
+activates (event.Input frame kind) B d = triggers kind && unwrap_or (option_map (λ c. reaches B c d) (document_in B frame)) false
+activates e B d = false
+
+-- how many documents the event activates
+unfoldable pub activated_count : Event → Told → ℕ
+activated_count e B = length (filter (activates e B) (documents_made B))
+
+-- what was told is that a use was met by transient activation
+abbrev pub is_by_transient : Item → Bool
+is_by_transient (Judged (verdict.Allowed via.Transient)) = true
+is_by_transient item = false
+
+-- a call of this name consumes user activation
+abbrev pub is_consuming_call : List ℕ → Bool
+is_consuming_call name = unwrap_or (option_map (λ call. (gate_of call).consumes) (call_named name)) false
+
+-- the frame is in the page
+abbrev pub is_frame_of_page : Told → ℕ → ℕ → Bool
+is_frame_of_page B frame top = unwrap_or (option_map (λ p. p == top) (page_of_frame B frame)) false
+
+-- the event, of which this was told, consumes the user activation of the page
+abbrev pub consumes_by : Event → Item → Told → ℕ → Bool
+consumes_by (event.UseCall frame call) item B top = is_by_transient item && is_consuming_call call && is_frame_of_page B frame top
+consumes_by (event.Post sender target named capability) item B top = makes_message item && is_frame_of_page B sender top
+consumes_by e item B top = false
+
+-- the step, after these, consumes the user activation of the page
+unfoldable pub consumes : Step → Told → ℕ → Bool
+consumes s B top = consumes_by s.event s.item B top
+
+-- the last activation of a document: its position and its time
+unfoldable pub last_activation : Told → ℕ → Option (ℕ × ℕ)
+last_activation T d = newest (λ s B. when (activates s.event B d) (length (s ∷ B), s.time)) T
+
+-- the user activation of the page was consumed after a position
+unfoldable pub is_consumed_since : Told → ℕ → ℕ → Bool
+is_consumed_since T position top = is_some (newest (λ s B. when (nat_lt position (length (s ∷ B)) && consumes s B top) position) T)
+
+-- sticky activation: some input activated the document
+unfoldable pub has_sticky : Told → ℕ → Bool
+has_sticky T d = is_some (last_activation T d)
+
+-- transient activation: the last activation is younger than the duration and was not consumed
+unfoldable pub has_transient : ℕ → Told → ℕ → ℕ → Bool
+has_transient duration T now d =
+    unwrap_or (option_map (λ last. nat_lt now (last.1 + duration) && not (is_consumed_since T last.0 (page T d))) (last_activation T d)) false

@@ -1,0 +1,48 @@
+-- Why a document is denied a policy-controlled feature: the first failing test along its chain of embedders.
+-- Permissions Policy, section 9 ("Define an inherited policy for feature in container at origin", "Is feature enabled in document for origin?").
+-- The tests are those of links, applied to the chain of the history; their order is this project's own.
+use Rattle.std.specs.Prelude.{ℕ, Bool, List, map, Option, Some, None, is_some, is_none, unwrap_or, option_map, option_and_then}
+use Rattle.pe_base.specs.declared.denial.Denial.{Denial}
+use Rattle.pe_features.specs.declared.feature.Feature.{Feature}
+use Rattle.pe_features.specs.Features.{default_of}
+use Rattle.pe_allowlist.specs.Lists.{Lists, no_lists}
+use Rattle.pe_allowlist.specs.ContainerPolicy.{container_policy}
+use Rattle.pe_header.specs.DeclaredPolicy.{declared_policy}
+use Rattle.pe_policy.specs.Links.{Link}
+use Rattle.pe_policy.specs.Denials.{denial}
+use Rattle.pe_rules.specs.History.{Told}
+use Rattle.pe_rules.specs.Making.{Making, making}
+use Rattle.pe_rules.specs.Embedders.{chain}
+use Rattle.pe_rules.specs.Origins.{origin_of, sandbox_flag, declared_origin}
+
+-- the declared policy of a document: what its header declares, by its own origin
+unfoldable pub declared_lists : Told → ℕ → Lists
+declared_lists T d = unwrap_or (option_map (λ m. declared_policy m.header (origin_of T d)) (making T d)) no_lists
+
+-- the container policy that a document was made with, in this embedder
+unfoldable pub container_in : Told → Making → ℕ → Lists
+container_in T m p = container_policy m.attributes.allow m.attributes.fullscreen (origin_of T p) (declared_origin m.attributes (sandbox_flag T p) (origin_of T p))
+
+-- the container policy of a document; a top document has none
+unfoldable pub container_lists : Told → ℕ → Lists
+container_lists T d = unwrap_or (option_and_then (λ m. option_map (container_in T m) m.embedder) (making T d)) no_lists
+
+-- a document of the chain, with all that the tests read
+unfoldable pub link : Told → ℕ → Link
+link T d = record { document = d; origin = origin_of T d; declared = declared_lists T d; container = container_lists T d }
+
+-- the links from the top document to this one
+unfoldable pub links : Told → ℕ → List Link
+links T d = map (link T) (chain T d)
+
+-- the first test that fails, nearest the top, with its document; nothing where the feature is allowed or not policy-controlled
+unfoldable pub why_denied : Told → Feature → ℕ → Option Denial
+why_denied T feature d = denial feature (links T d)
+
+-- the feature is policy-controlled
+abbrev pub is_controlled : Feature → Bool
+is_controlled feature = is_some (default_of feature)
+
+-- the feature is policy-controlled and allowed in the document
+unfoldable pub is_allowed : Told → ℕ → Feature → Bool
+is_allowed T d feature = unwrap_or (option_map (λ default. is_none (why_denied T feature d)) (default_of feature)) false

@@ -1,0 +1,126 @@
+-- Permission keys, the settings of a pair of feature and key, how long they hold, and what is stored.
+-- Permissions, section 3 ("permission store", "permission key") and 4.1 ("lifetime").
+-- Lives and the key of `storage-access` are this project's own.
+use Rattle.std.specs.Prelude.{ℕ, ◌+◌, Bool, true, false, ◌&&◌, nat_lt, List, ◌∷◌, length, Option, Some, None, is_some, option_map, option_and_then}
+use Rattle.pe_base.specs.declared.state.State.{State}
+use Rattle.pe_base.specs.declared.state.State.TheVariants as state
+use Rattle.pe_features.specs.declared.feature.Feature.{Feature}
+use Rattle.pe_features.specs.declared.feature.KeyKind.{KeyKind}
+use Rattle.pe_features.specs.declared.feature.KeyKind.TheVariants as kind
+use Rattle.pe_features.specs.Features.{feature_named, same_feature, key_of}
+use Rattle.pe_origin.specs.declared.origin.Origin.{Origin}
+use Rattle.pe_origin.specs.declared.origin.Origin.TheVariants as origin
+use Rattle.pe_origin.specs.Origins.{is_same_origin}
+use Rattle.pe_store.specs.declared.key.Key.{Key}
+use Rattle.pe_store.specs.declared.key.Key.TheVariants as key
+use Rattle.pe_store.specs.declared.key.Life.{Life}
+use Rattle.pe_store.specs.declared.key.Life.TheVariants as life
+use Rattle.pe_events.specs.declared.event.Event.{Event}
+use Rattle.pe_events.specs.declared.event.Event.TheVariants as event
+use Rattle.pe_events.specs.declared.event.EventLife.{EventLife}
+use Rattle.pe_events.specs.declared.event.EventLife.TheVariants as given
+use Rattle.pe_events.specs.declared.event.Outcome.{Outcome}
+use Rattle.pe_events.specs.declared.event.Outcome.TheVariants as outcome
+use Rattle.pe_rules.specs.History.{Step, Told, when, newest, step_at, clock}
+use Rattle.pe_rules.specs.Embedders.{top_document, page}
+use Rattle.pe_rules.specs.Current.{is_current, document_in}
+use Rattle.pe_rules.specs.Origins.{origin_of, place_or_none}
+
+-- a feature and a key
+abbrev pub Pair : Type 0
+Pair = Feature × Key
+
+-- the two keys are one
+abbrev pub is_same_key : Key → Key → Bool
+is_same_key (key.One a) (key.One b) = is_same_origin a b
+is_same_key (key.Pair a b) (key.Pair c d) = is_same_origin a c && is_same_origin b d
+is_same_key _ _ = false
+
+-- the two pairs are one
+unfoldable pub is_same_pair : Pair → Pair → Bool
+is_same_pair p q = same_feature p.0 q.0 && is_same_key p.1 q.1
+
+-- the key of a kind, of the origins of a top document and of a document of its page
+abbrev pub key_by_kind : KeyKind → Origin → Origin → Key
+key_by_kind kind.Single top own = key.One top
+key_by_kind kind.Pair top own = key.Pair top own
+
+-- the permission key of a feature for a document; none for a feature without a permission
+unfoldable pub key_for : Told → ℕ → Feature → Option Key
+key_for T d feature = option_map (λ k. key_by_kind k (origin_of T (top_document T d)) (origin_of T d)) (key_of feature)
+
+-- the pair of a feature for a document
+unfoldable pub pair_for : Told → ℕ → Feature → Option Pair
+pair_for T d feature = option_map (λ k. (feature, k)) (key_for T d feature)
+
+-- the document that an event asks a permission for, with the feature
+abbrev pub asking : Event → Told → Option (ℕ × Feature)
+asking (event.Request frame feature) B = option_and_then (λ d. option_map (λ f. (d, f)) (feature_named feature)) (document_in B frame)
+asking e B = None
+
+-- the pair of a prompt: that of the document and the feature of its request
+unfoldable pub prompt_pair : Told → ℕ → Option Pair
+prompt_pair T k = option_and_then (λ a. option_and_then (λ q. pair_for a.1 q.0 q.1) (asking a.0.event a.1)) (step_at T k)
+
+-- the page of a prompt: that of its request's document
+unfoldable pub prompt_page : Told → ℕ → Option ℕ
+prompt_page T k = option_and_then (λ a. option_map (λ q. page a.1 q.0) (asking a.0.event a.1)) (step_at T k)
+
+-- a setting of a pair
+pub record Setting : Type 0 where
+  pub pair : Pair
+  pub state : State
+  pub life : Life
+
+-- the tuple origin of an origin word
+abbrev pub word_origin : List ℕ → Option Origin
+word_origin text = option_map origin.Tuple (place_or_none text).tuple
+
+-- the key that one origin word or two name
+abbrev pub key_of_words : Origin → Option Origin → Key
+key_of_words first None = key.One first
+key_of_words first (Some second) = key.Pair first second
+
+-- the life of a setting that is made for a span, or forever
+abbrev pub life_for : ℕ → Option ℕ → Life
+life_for time None = life.Forever
+life_for time (Some ms) = life.Until (time + ms)
+
+-- the life of an answer: of once, while the top document of the prompt's page is current
+abbrev pub life_of_answer : ℕ → EventLife → Option ℕ → Life
+life_of_answer time given.Forever top = life.Forever
+life_of_answer time (given.For ms) top = life.Until (time + ms)
+life_of_answer time given.Once (Some top) = life.Page top
+life_of_answer time given.Once None = life.Until 0
+
+-- the state that an outcome stores; a dismissal stores nothing
+abbrev pub stored_by_outcome : Outcome → Option State
+stored_by_outcome outcome.Allow = Some state.Granted
+stored_by_outcome outcome.Block = Some state.Denied
+stored_by_outcome outcome.Dismiss = None
+
+-- the setting that the event makes at this time, after these steps
+unfoldable pub setting_by : ℕ → Event → Told → Option Setting
+setting_by time (event.SetState feature first second state span) B =
+    option_and_then (λ f. option_map (λ o. record { pair = (f, key_of_words o (option_and_then word_origin second)); state = state; life = life_for time span }) (word_origin first)) (feature_named feature)
+setting_by time (event.Answered prompt out given) B =
+    option_and_then (λ state. option_map (λ pair. record { pair = pair; state = state; life = life_of_answer time given (option_and_then (document_in B) (prompt_page B prompt)) }) (prompt_pair B prompt)) (stored_by_outcome out)
+setting_by time e B = None
+
+-- the last setting of a pair
+unfoldable pub last_setting : Told → Pair → Option Setting
+last_setting T pair = newest (λ s B. option_and_then (λ x. when (is_same_pair x.pair pair) x) (setting_by s.time s.event B)) T
+
+-- a life holds at a time
+unfoldable pub holds : Told → ℕ → Life → Bool
+holds T now life.Forever = true
+holds T now (life.Until end) = nat_lt now end
+holds T now (life.Page d) = is_current T d
+
+-- the stored state of a pair at a time: that of its last setting while its life holds; no earlier setting is looked at
+unfoldable pub stored : Told → ℕ → Pair → Option State
+stored T now pair = option_and_then (λ x. when (holds T now x.life) x.state) (last_setting T pair)
+
+-- the pair has an entry: something is stored at the clock
+unfoldable pub has_entry : Told → Pair → Bool
+has_entry T pair = is_some (stored T (clock T) pair)

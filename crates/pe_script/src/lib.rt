@@ -1,0 +1,2 @@
+//! Reading the lines of a script.
+#![tactic(auto)]
