@@ -1,0 +1,30 @@
+//! Container policies: what an `allow` attribute gives the document below.
+use crate::allowlist::Allowlist;
+use pe_features::Feature;
+use pe_origin::Origin;
+use std::marker::Model;
+
+/// The declared origin of a browsing context container (Permissions Policy, "declared origin").
+#[derive(Debug, Drop, PartialEq, Eq)]
+pub enum DeclaredOrigin {
+    /// An origin that is known. An opaque one counts as `Opaque` does.
+    Known(Origin),
+    /// An opaque origin of a document that is not made yet.
+    Opaque,
+}
+
+/// A container policy, a map from features to allowlists (Permissions Policy, "container policy").
+#[derive(Debug, Drop)]
+pub struct Container {
+    rows: Vec<(Feature, Allowlist)>,
+}
+
+impl Model for Container {
+    ghost use Rattle.std.specs.Prelude.{List};
+    ghost use Rattle.pe_features.specs.declared.feature.Feature.{Feature};
+    ghost use Rattle.pe_allowlist.specs.declared.allowlist.Allowlist.{Allowlist};
+
+    ghost Value = { List (Feature × Allowlist) };
+
+    ghost view = { λ c. c.rows.items };
+}
