@@ -1,7 +1,7 @@
 -- Maps from features to allowlists.
 -- Permissions Policy, sections "policy-controlled feature", "declared policy" and "container policy":
 -- each policy is a map, and a feature that a map lacks has no allowlist there.
-use Rattle.std.specs.Prelude.{Bool, List, [], ◌∷◌, Option, Some, None, is_some, if◌then◌else◌}
+use Rattle.std.specs.Prelude.{Bool, List, Option, None, is_some, option_map, find}
 use Rattle.pe_features.specs.declared.feature.Feature.{Feature}
 use Rattle.pe_features.specs.Features.{default_of, same_feature}
 use Rattle.pe_allowlist.specs.declared.allowlist.Allowlist.{Allowlist}
@@ -14,12 +14,13 @@ Lists = Feature → Option Allowlist
 abbrev pub no_lists : Lists
 no_lists feature = None
 
+-- the pair is of this feature
+abbrev pub is_of_feature : Feature → Feature × Allowlist → Bool
+is_of_feature feature row = same_feature row.0 feature
+
 -- the meaning of a list of pairs: of those of one feature the first counts
 unfoldable pub lists_of : List (Feature × Allowlist) → Lists
-lists_of [] feature = None
-lists_of (row ∷ rows) feature =
-    let later = lists_of rows feature in
-    if same_feature row.0 feature then Some row.1 else later
+lists_of rows feature = option_map (λ (row : Feature × Allowlist). row.1) (find (is_of_feature feature) rows)
 
 -- the feature is policy-controlled: it has a default allowlist
 abbrev pub is_policy_controlled : Feature → Bool

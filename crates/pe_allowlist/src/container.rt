@@ -1,5 +1,10 @@
 //! Container policies: what an `allow` attribute gives the document below.
+ghost use Rattle.std.specs.Prelude.{◌≡◌};
+ghost use Rattle.std.specs.Option.{option_copied};
+ghost use Rattle.pe_allowlist.specs.Lists.{lists_of};
+
 use crate::allowlist::Allowlist;
+use crate::pairs::find_list;
 use pe_features::Feature;
 use pe_origin::Origin;
 use std::marker::Model;
@@ -27,4 +32,13 @@ impl Model for Container {
     ghost Value = { List (Feature × Allowlist) };
 
     ghost view = { λ c. c.rows.items };
+}
+
+impl Container {
+    /// The allowlist of the feature; None where the map lacks it.
+    pub fn get(&self, feature: Feature) -> Option<&Allowlist>
+        ensures { option_copied result ≡ lists_of self.now feature }
+    {
+        find_list(&self.rows, feature)
+    }
 }

@@ -4,6 +4,8 @@
 mod allowlist;
 mod container;
 mod declared;
+mod matching;
+mod pairs;
 
 pub use allowlist::{Allowlist, Expression, Expressions};
 pub use container::{Container, DeclaredOrigin};
