@@ -1,0 +1,4 @@
+pub mod HostLaws
+pub mod OnLiterals
+pub mod PairLaws
+mod Rows

@@ -1,0 +1,5 @@
+pub mod AsciiWords
+pub mod Lists
+pub mod Expressions
+pub mod Allowlists
+pub mod ContainerPolicy

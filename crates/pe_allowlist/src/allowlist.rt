@@ -1,0 +1,60 @@
+//! Allowlists.
+ghost use Rattle.std.specs.Prelude.{◌≡◌};
+
+use pe_origin::{Origin, Tuple};
+use std::marker::Model;
+
+/// An expression of an allowlist, as `https://pay.example` or `https://*.pay.example`.
+#[derive(Debug, Drop, PartialEq, Eq)]
+pub struct Expression {
+    /// The host stands for the hosts below it, and not for itself.
+    pub wild: bool,
+    /// The tuple origin that is matched, or whose host the matched ones stand below.
+    pub tuple: Tuple,
+}
+
+/// Expressions, seen by contracts as their list.
+#[derive(Debug, Drop)]
+pub struct Expressions {
+    items: Vec<Expression>,
+}
+
+impl Model for Expressions {
+    ghost use Rattle.std.specs.Prelude.{List};
+    ghost use Rattle.pe_allowlist.specs.declared.allowlist.Expression.{Expression};
+
+    ghost Value = { List Expression };
+
+    ghost view = { λ e. e.items.items };
+}
+
+impl Expressions {
+    /// Owns the given expressions.
+    pub fn of(items: Vec<Expression>) -> Expressions
+        ensures { result ≡ items.items }
+    {
+        Expressions { items }
+    }
+
+    /// The expressions.
+    pub fn as_slice(&self) -> &[Expression]
+        ensures { result.now ≡ self.now }
+    {
+        self.items.as_slice()
+    }
+}
+
+/// Which origins may use a feature (Permissions Policy, "allowlist").
+#[derive(Debug, Drop)]
+pub struct Allowlist {
+    /// `*` stands in it: every origin is matched.
+    pub any: bool,
+    /// The origin that `'self'` or `self` stands for.
+    pub selves: Option<Origin>,
+    /// The origin that `'src'` stands for.
+    pub src: Option<Origin>,
+    /// `'src'` stands for an opaque origin: every opaque origin is matched.
+    pub src_opaque: bool,
+    /// The expressions that stand in it.
+    pub expressions: Expressions,
+}

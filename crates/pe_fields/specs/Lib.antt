@@ -1,0 +1,5 @@
+pub mod Alphabet
+pub mod Numbers
+pub mod Reading
+pub mod Grammar
+pub mod Dictionary

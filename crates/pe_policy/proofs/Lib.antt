@@ -1,0 +1,3 @@
+pub mod OnLiterals
+mod Rows
+pub mod Values
