@@ -1,2 +1,4 @@
 pub mod OnLiterals
+pub mod Ahead
+pub mod Agreement
 mod Rows
