@@ -6,13 +6,13 @@ use Rattle.std.proofs.lemmas.Bool.Decides.{nat_tests}
 use Rattle.std.proofs.lemmas.Bool.{eqb-true}
 use Rattle.pe_lines.specs.declared.word.Word.{Word}
 use Rattle.pe_lines.specs.Words.{is_blank, Kind, Blank, Quote, Backslash, Other, kind_of, Stage, Between, Bare, Quoted, Escaped, Closed, Ahead, closed, longer, begun, ahead_at_byte, ahead_of, words_of}
-use Rattle.pe_lines.specs.Grammar.{is_escaped, escaped, written, is_bare, IsBareText, HasForm, EndsWord, StandsFirst, AreWordsFrom, AreWords}
+use Rattle.pe_lines.specs.Grammar.{is_escaped, escaped, written, is_bare, IsBareText, HasForm, ends_word, StandsFirst, AreWordsFrom, AreWords}
 use Rattle.pe_lines.proofs.Ahead.{kind_by, opened, with_word, option_map-comp, and_first, and_rest, first_bare_byte, gap_ahead, bare_ahead, quote_ahead}
 
 -- ---- each word of the grammar is found
 
 -- a word is read to its end, by its form
-form_ahead : (place start : ℕ) (text rest : List ℕ) (quoted : Bool) (end : ℕ) → start ≡ place → HasForm quoted text → EndsWord rest → end ≡ place + length (if quoted then 34 ∷ escaped text ++ 34 ∷ [] else text)
+form_ahead : (place start : ℕ) (text rest : List ℕ) (quoted : Bool) (end : ℕ) → start ≡ place → HasForm quoted text → ends_word rest ≡ true → end ≡ place + length (if quoted then 34 ∷ escaped text ++ 34 ∷ [] else text)
     → ahead_of Between place ((if quoted then 34 ∷ escaped text ++ 34 ∷ [] else text) ++ rest) ≡ option_map (with_word place (record { text = text; quoted = quoted; start = start; end = end })) (ahead_of Between end rest)
 form_ahead place start text rest true end s form apart e =
     let after : end ≡ place + 1 + length (escaped text) + 1 = omega (arith, length-append (escaped text) (34 ∷ [])) in
@@ -72,7 +72,7 @@ kind_is b = kind_is_by b (is_blank b) (b == 34) (b == 92) refl refl refl
 -- the open word goes on with these bytes, and the rest behind it is words
 record GoesOn (place : ℕ) (line : List ℕ) (ahead : Ahead) (bytes rest : List ℕ) : Type 0 where
   parts : line ≡ bytes ++ rest
-  apart : EndsWord rest
+  apart : ends_word rest ≡ true
   ends : ahead.end ≡ place + length bytes
   behind : AreWordsFrom ahead.end rest ahead.words
 
@@ -94,7 +94,7 @@ IsRight Between place line ahead = AreWordsFrom place line ahead.words
 IsRight Bare place line ahead = (rest : List ℕ) × GoesOn place line ahead ahead.text rest × (list_all is_bare ahead.text ≡ true)
 IsRight Quoted place line ahead = (rest : List ℕ) × GoesOn place line ahead (escaped ahead.text ++ 34 ∷ []) rest
 IsRight Escaped place line ahead = (b : ℕ) × (text : List ℕ) × (rest : List ℕ) × (ahead.text ≡ b ∷ text) × (is_escaped b ≡ true) × GoesOn place line ahead (b ∷ escaped text ++ 34 ∷ []) rest
-IsRight Closed place line ahead = EndsWord line × AreWordsFrom place line ahead.words
+IsRight Closed place line ahead = (ends_word line ≡ true) × AreWordsFrom place line ahead.words
 
 mapped : {A B : Type 0} (f : A → B) (o : Option A) (b : B) → option_map f o ≡ Some b → (a : A) × (o ≡ Some a) × (f a ≡ b)
 mapped f None b e = cc
@@ -102,26 +102,36 @@ mapped f (Some a) b e = (a, refl, cc)
 
 blank_in_front : (place b : ℕ) (line : List ℕ) (words : List Word) → is_blank b ≡ true → AreWordsFrom (place + 1) line words → AreWordsFrom place (b ∷ line) words
 blank_in_front place b line [] h blank = rw h blank
-blank_in_front place b line (word ∷ words) h (gap, rest, first, more) = (b ∷ gap, rest, record {
-  parts = ap (λ l. b ∷ l) first.parts;
-  blank = rw h first.blank;
-  form = first.form;
-  apart = first.apart;
-  starts = omega (arith, first.starts);
-  ends = first.ends;
-}, more)
+blank_in_front place b line (word ∷ words) h (gap, rest, first, more) = (
+  b ∷ gap,
+  rest,
+  record {
+    parts = ap (λ l. b ∷ l) first.parts;
+    blank = rw h first.blank;
+    form = first.form;
+    apart = first.apart;
+    starts = omega (arith, first.starts);
+    ends = first.ends;
+  },
+  more,
+)
 
 -- a word that begins here
 word_first : (place : ℕ) (line : List ℕ) (ahead : Ahead) (quoted : Bool) (bytes rest : List ℕ) → GoesOn place line ahead bytes rest → HasForm quoted ahead.text → bytes ≡ (if quoted then 34 ∷ escaped ahead.text ++ 34 ∷ [] else ahead.text)
     → AreWordsFrom place line (begun quoted place ahead).words
-word_first place line ahead quoted bytes rest on form is = ([], rest, record {
-  parts = on.parts ∙ ap (λ l. l ++ rest) is;
-  blank = refl;
-  form = form;
-  apart = on.apart;
-  starts = omega arith;
-  ends = on.ends ∙ ap (λ l. place + length l) is;
-}, on.behind)
+word_first place line ahead quoted bytes rest on form is = (
+  [],
+  rest,
+  record {
+    parts = on.parts ∙ ap (λ l. l ++ rest) is;
+    blank = refl;
+    form = form;
+    apart = on.apart;
+    starts = omega arith;
+    ends = on.ends ∙ ap (λ l. place + length l) is;
+  },
+  on.behind,
+)
 
 escaped_escape : (b : ℕ) (text : List ℕ) → is_escaped b ≡ true → escaped (b ∷ text) ≡ 92 ∷ b ∷ escaped text
 escaped_escape b text h = rw h refl
@@ -129,7 +139,7 @@ escaped_escape b text h = rw h refl
 escaped_byte : (b : ℕ) (text : List ℕ) → is_escaped b ≡ false → escaped (b ∷ text) ≡ b ∷ escaped text
 escaped_byte b text h = rw h refl
 
-nothing_on : (place : ℕ) (line : List ℕ) (ahead : Ahead) → EndsWord line → ahead.end ≡ place → AreWordsFrom place line ahead.words → GoesOn place line ahead [] line
+nothing_on : (place : ℕ) (line : List ℕ) (ahead : Ahead) → ends_word line ≡ true → ahead.end ≡ place → AreWordsFrom place line ahead.words → GoesOn place line ahead [] line
 nothing_on place line ahead apart e words = record { parts = refl; apart = apart; ends = omega arith; behind = subst (λ k. AreWordsFrom k line ahead.words) (sym e) words }
 
 right_between : (place b : ℕ) (line : List ℕ) (ahead : Ahead) (kind : Kind) (behind : Stage → Option Ahead) → IsKind kind b → ((stage : Stage) (next : Ahead) → behind stage ≡ Some next → IsRight stage (place + 1) line next)
@@ -171,9 +181,11 @@ right_bare place b line ahead Other behind is right e =
 
 plain_on : (place b : ℕ) (line : List ℕ) (next : Ahead) → is_escaped b ≡ false → IsRight Quoted (place + 1) line next → IsRight Quoted place (b ∷ line) (longer b next)
 unfolding IsRight
-plain_on place b line next is (rest, on) =
-    (rest, subst (λ l. GoesOn place (b ∷ line) (longer b next) (l ++ 34 ∷ []) rest) (sym (escaped_byte b next.text is))
-    (longer_on place b (b ∷ line) next (b ∷ escaped next.text ++ 34 ∷ []) rest (one_on place b line next (escaped next.text ++ 34 ∷ []) rest on)))
+plain_on place b line next is (rest, on) = (
+  rest,
+  subst (λ l. GoesOn place (b ∷ line) (longer b next) (l ++ 34 ∷ []) rest) (sym (escaped_byte b next.text is))
+      (longer_on place b (b ∷ line) next (b ∷ escaped next.text ++ 34 ∷ []) rest (one_on place b line next (escaped next.text ++ 34 ∷ []) rest on)),
+)
 
 blank_is_plain : (b : ℕ) → is_blank b ≡ true → is_escaped b ≡ false
 blank_is_plain b h = grind (arith, nat_tests)
@@ -226,10 +238,10 @@ right_closed place b line ahead Other behind is right e = cc
 right_at_end : (stage : Stage) (place : ℕ) (ahead : Ahead) → ahead_of stage place [] ≡ Some ahead → IsRight stage place [] ahead
 unfolding IsRight
 right_at_end Between place ahead e = let same : record { text = []; end = place; words = [] } ≡ ahead = cc in subst (IsRight Between place []) same refl
-right_at_end Bare place ahead e = let same : record { text = []; end = place; words = [] } ≡ ahead = cc in subst (IsRight Bare place []) same ([], nothing_on place [] (record { text = []; end = place; words = [] }) tt refl refl, refl)
+right_at_end Bare place ahead e = let same : record { text = []; end = place; words = [] } ≡ ahead = cc in subst (IsRight Bare place []) same ([], nothing_on place [] (record { text = []; end = place; words = [] }) refl refl refl, refl)
 right_at_end Quoted place ahead e = cc
 right_at_end Escaped place ahead e = cc
-right_at_end Closed place ahead e = let same : record { text = []; end = place; words = [] } ≡ ahead = cc in subst (IsRight Closed place []) same (tt, refl)
+right_at_end Closed place ahead e = let same : record { text = []; end = place; words = [] } ≡ ahead = cc in subst (IsRight Closed place []) same (refl, refl)
 
 right_at_byte : (stage : Stage) (place b : ℕ) (line : List ℕ) (ahead : Ahead) → ((next : Stage) (more : Ahead) → ahead_of next (place + 1) line ≡ Some more → IsRight next (place + 1) line more)
     → ahead_of stage place (b ∷ line) ≡ Some ahead → IsRight stage place (b ∷ line) ahead

@@ -6,7 +6,7 @@ use Rattle.std.proofs.lemmas.Bool.Decides.{nat_tests}
 use Rattle.std.proofs.lemmas.Bool.{eqb-true}
 use Rattle.pe_lines.specs.declared.word.Word.{Word}
 use Rattle.pe_lines.specs.Words.{is_blank, Kind, Blank, Quote, Backslash, Other, kind_of, Stage, Between, Bare, Quoted, Escaped, Closed, Ahead, closed, longer, begun, ahead_at_byte, ahead_of}
-use Rattle.pe_lines.specs.Grammar.{is_escaped, escaped, written, is_bare, IsBareText, HasForm, EndsWord}
+use Rattle.pe_lines.specs.Grammar.{is_escaped, escaped, written, is_bare, IsBareText, HasForm, ends_word}
 
 -- the kind by the three tests
 abbrev pub kind_by : Bool → Bool → Bool → Kind
@@ -50,7 +50,7 @@ blank_kind false q r h = cc
 pub kind_of_blank : (b : ℕ) → is_blank b ≡ true → kind_of b ≡ Blank
 kind_of_blank b h = blank_kind (is_blank b) (b == 34) (b == 92) h
 
-bare_byte : (place b : ℕ) (behind : Stage → Option Ahead) (p q r : Bool) → not (p || q) ≡ true → ahead_at_byte Bare (kind_by p q r) place b behind ≡ option_map (longer b) (behind Bare)
+pub bare_byte : (place b : ℕ) (behind : Stage → Option Ahead) (p q r : Bool) → not (p || q) ≡ true → ahead_at_byte Bare (kind_by p q r) place b behind ≡ option_map (longer b) (behind Bare)
 bare_byte place b behind true q r h = cc
 bare_byte place b behind false true r h = cc
 bare_byte place b behind false false true h = refl
@@ -80,7 +80,7 @@ gap_ahead place next (b ∷ gap) rest e h =
     ∙ gap_ahead (place + 1) next gap rest (omega arith) (and_rest (is_blank b) (list_all is_blank gap) h)
 
 -- a bare word is read to its end
-pub bare_ahead : (place next : ℕ) (text rest : List ℕ) → next ≡ place + length text → list_all is_bare text ≡ true → EndsWord rest → ahead_of Bare place (text ++ rest) ≡ option_map (opened text next) (ahead_of Between next rest)
+pub bare_ahead : (place next : ℕ) (text rest : List ℕ) → next ≡ place + length text → list_all is_bare text ≡ true → ends_word rest ≡ true → ahead_of Bare place (text ++ rest) ≡ option_map (opened text next) (ahead_of Between next rest)
 bare_ahead place next [] [] e h apart = let same : place ≡ next = omega arith in ap (λ k. Some (record { text = []; end = k; words = [] })) same
 bare_ahead place next [] (b ∷ rest) e h apart =
     let same : place ≡ next = omega arith in
@@ -92,7 +92,7 @@ bare_ahead place next (b ∷ text) rest e h apart =
     ∙ option_map-comp (longer b) (opened text next) (ahead_of Between next rest)
 
 -- behind a closing quote
-closed_ahead : (place : ℕ) (rest : List ℕ) → EndsWord rest → option_map (closed place) (ahead_of Closed place rest) ≡ option_map (closed place) (ahead_of Between place rest)
+closed_ahead : (place : ℕ) (rest : List ℕ) → ends_word rest ≡ true → option_map (closed place) (ahead_of Closed place rest) ≡ option_map (closed place) (ahead_of Between place rest)
 closed_ahead place [] apart = refl
 closed_ahead place (b ∷ rest) apart = ap (option_map (closed place)) (closed_blank place b rest apart ∙ sym (between_blank place b rest apart))
 
@@ -127,7 +127,7 @@ quoted_ahead place next [] line e = ap (λ k. ahead_of Quoted k line) (omega ari
 quoted_ahead place next (b ∷ text) line e = one_more place next b text line (is_escaped b) refl e (λ place next e. quoted_ahead place next text line e)
 
 -- a text in quotes is read to its closing quote
-pub quote_ahead : (place next : ℕ) (text rest : List ℕ) → next ≡ place + length (escaped text) + 1 → EndsWord rest → ahead_of Quoted place (escaped text ++ 34 ∷ rest) ≡ option_map (opened (text ++ []) next) (ahead_of Between next rest)
+pub quote_ahead : (place next : ℕ) (text rest : List ℕ) → next ≡ place + length (escaped text) + 1 → ends_word rest ≡ true → ahead_of Quoted place (escaped text ++ 34 ∷ rest) ≡ option_map (opened (text ++ []) next) (ahead_of Between next rest)
 quote_ahead place next text rest e apart =
     let at = place + length (escaped text) in
     let same : at + 1 ≡ next = omega arith in

@@ -19,9 +19,13 @@ escaped (b ∷ text) = if is_escaped b then 92 ∷ b ∷ escaped text else b ∷
 abbrev pub written : Word → List ℕ
 written word = if word.quoted then 34 ∷ escaped word.text ++ 34 ∷ [] else word.text
 
+-- the byte may not stand in a bare word
+abbrev pub ends_bare : ℕ → Bool
+ends_bare b = is_blank b || (b == 34)
+
 -- the byte may stand in a bare word
 abbrev pub is_bare : ℕ → Bool
-is_bare b = not (is_blank b || (b == 34))
+is_bare b = not (ends_bare b)
 
 -- a bare word has at least one byte, and each is neither a blank nor a quote
 pub record IsBareText (text : List ℕ) : Type 0 where
@@ -33,17 +37,17 @@ abbrev pub HasForm : Bool → List ℕ → Type 0
 HasForm true text = Unit {0}
 HasForm false text = IsBareText text
 
--- behind a word stands a blank, or nothing
-abbrev pub EndsWord : List ℕ → Type 0
-EndsWord [] = Unit {0}
-EndsWord (b ∷ rest) = is_blank b ≡ true
+-- these bytes may stand behind a word: none, or a blank and others
+abbrev pub ends_word : List ℕ → Bool
+ends_word [] = true
+ends_word (b ∷ rest) = is_blank b
 
 -- from a place on, the line is a gap of blanks, the word and a rest
 pub record StandsFirst (place : ℕ) (line : List ℕ) (word : Word) (gap rest : List ℕ) : Type 0 where
   pub parts : line ≡ gap ++ (written word ++ rest)
   pub blank : list_all is_blank gap ≡ true
   pub form : HasForm word.quoted word.text
-  pub apart : EndsWord rest
+  pub apart : ends_word rest ≡ true
   pub starts : word.start ≡ place + length gap
   pub ends : word.end ≡ word.start + length (written word)
 
