@@ -1,2 +1,5 @@
 pub mod OnLiterals
+pub mod Ahead
+pub mod Agreement
+pub mod Found
 mod Rows

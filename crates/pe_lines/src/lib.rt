@@ -7,4 +7,4 @@ mod word;
 
 pub use cut::Cut;
 pub use text::Text;
-pub use word::{Word, WordFault};
+pub use word::{Word, WordFault, words, words_are_by_grammar};

@@ -1,0 +1,48 @@
+-- What the steps of the reader of words find in a line.
+-- This project's own.
+-- These are facts of helpers; what the words of a line are is said by the grammar.
+use Rattle.std.specs.Prelude.{◌≡◌, ℕ, ◌<◌, ◌≤◌, ◌==◌, Bool, true, false, List, [], ◌∷◌, length, drop, take, if◌then◌else◌, Option, Some, None}
+use Rattle.pe_lines.specs.declared.word.Word.{Word}
+use Rattle.pe_lines.specs.Words.{Between, Quoted, ahead_of}
+use Rattle.pe_lines.specs.Grammar.{is_escaped, escaped, StandsFirst}
+
+-- the word stands at this place of the line
+pub record IsWordAt (line : List ℕ) (place : ℕ) (word : Word) : Type 0 where
+  pub first : StandsFirst place (drop place line) word [] (drop word.end line)
+  pub within : word.end ≤ length line
+  pub further : place < word.end
+
+-- from this place on the line is no list of words
+abbrev pub HasNoWords : List ℕ → ℕ → Type 0
+HasNoWords line place = ahead_of Between place (drop place line) ≡ None
+
+-- how many bytes the first byte of a text takes in quotes; None at a closing quote, at the end and at a backslash that escapes nothing
+abbrev pub char_len : List ℕ → Option ℕ
+char_len [] = None
+char_len (b ∷ []) = if is_escaped b then None else Some 1
+char_len (b ∷ c ∷ rest) = if b == 92 then (if is_escaped c then Some 2 else None) else if b == 34 then None else Some 1
+
+-- a quote comes first
+abbrev pub begins_quote : List ℕ → Bool
+begins_quote [] = false
+begins_quote (b ∷ rest) = b == 34
+
+-- the first bytes are a text as it stands in quotes
+abbrev pub IsEscapedFront : List ℕ → ℕ → Type 0
+IsEscapedFront bytes count = (text : List ℕ) × (take count bytes ≡ escaped text)
+
+-- behind the first bytes stands the closing quote of the text that they are
+pub record ClosesAfter (bytes : List ℕ) (count : ℕ) : Type 0 where
+  pub front : IsEscapedFront bytes count
+  pub quote : begins_quote (drop count bytes) ≡ true
+  pub within : count < length bytes
+
+-- the bytes are no text with a closing quote behind it, wherever they stand
+abbrev pub NeverCloses : List ℕ → Type 0
+NeverCloses bytes = (place : ℕ) → ahead_of Quoted place bytes ≡ None
+
+-- each backslash goes, and the byte behind it stays
+abbrev pub without_escapes : List ℕ → List ℕ
+without_escapes [] = []
+without_escapes (b ∷ []) = b ∷ []
+without_escapes (b ∷ c ∷ bytes) = if b == 92 then c ∷ without_escapes bytes else b ∷ without_escapes (c ∷ bytes)
