@@ -1,8 +1,8 @@
 //! What the engine knows of a URL.
 ghost use Rattle.std.specs.Prelude.{◌≡◌, ◌≢◌, ◌↔◌, Some, None, IfOk, IfErr, IsSome};
+ghost use Rattle.url.specs.Parser.{parse_url};
 ghost use Rattle.url.specs.Parts.{host_or_empty};
 ghost use Rattle.pe_origin.specs.Places as spec;
-ghost use Rattle.url.specs.Parser.{parse_url};
 ghost use Rattle.pe_origin.specs.Places.{place_at, place_of_parsed};
 ghost use Rattle.pe_origin.specs.declared.place.PlaceFault.TheVariants.{NotAUrl};
 ghost use Rattle.pe_origin.specs.declared.place.PlaceKind.TheVariants.{Net};
