@@ -1,11 +1,10 @@
 -- Why a document is denied a policy-controlled feature: the first failing test along its chain of embedders.
 -- Permissions Policy, section 9 ("Define an inherited policy for feature in container at origin", "Is feature enabled in document for origin?").
 -- The tests are those of links, applied to the chain of the history; their order is this project's own.
-use Rattle.std.specs.Prelude.{ℕ, Bool, List, map, Option, Some, None, is_some, is_none, unwrap_or, option_map, option_and_then}
+use Rattle.std.specs.Prelude.{ℕ, Bool, ◌&&◌, List, map, Option, is_none, unwrap_or, option_map, option_and_then}
 use Rattle.pe_base.specs.declared.denial.Denial.{Denial}
 use Rattle.pe_features.specs.declared.feature.Feature.{Feature}
-use Rattle.pe_features.specs.Features.{default_of}
-use Rattle.pe_allowlist.specs.Lists.{Lists, no_lists}
+use Rattle.pe_allowlist.specs.Lists.{Lists, no_lists, is_policy_controlled}
 use Rattle.pe_allowlist.specs.ContainerPolicy.{container_policy}
 use Rattle.pe_header.specs.DeclaredPolicy.{declared_policy}
 use Rattle.pe_policy.specs.Links.{Link}
@@ -39,10 +38,6 @@ links T d = map (link T) (chain T d)
 unfoldable pub why_denied : Told → Feature → ℕ → Option Denial
 why_denied T feature d = denial feature (links T d)
 
--- the feature is policy-controlled
-abbrev pub is_controlled : Feature → Bool
-is_controlled feature = is_some (default_of feature)
-
 -- the feature is policy-controlled and allowed in the document
 unfoldable pub is_allowed : Told → ℕ → Feature → Bool
-is_allowed T d feature = unwrap_or (option_map (λ default. is_none (why_denied T feature d)) (default_of feature)) false
+is_allowed T d feature = is_policy_controlled feature && is_none (why_denied T feature d)

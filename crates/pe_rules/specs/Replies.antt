@@ -1,7 +1,7 @@
 -- What each event is answered, and what is told of a history.
 -- The answers are this project's own; what they tell is worked out by the definitions before.
 -- A history is regular where each event is accepted after those before it.
-use Rattle.std.specs.Prelude.{ℕ, ◌+◌, Bool, true, not, ◌&&◌, List, [], ◌∷◌, map, length, Option, Some, None, is_none, unwrap_or, option_map, option_and_then, if◌then◌else◌}
+use Rattle.std.specs.Prelude.{ℕ, ◌+◌, Bool, true, false, not, ◌&&◌, List, [], ◌∷◌, map, length, Option, Some, None, is_none, unwrap_or, option_map, option_and_then, if◌then◌else◌}
 use Rattle.std.specs.Option.{option_or}
 use Rattle.pe_base.specs.declared.denial.Denial.{Denial}
 use Rattle.pe_base.specs.declared.state.State.{State}
