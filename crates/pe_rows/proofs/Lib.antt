@@ -12,7 +12,6 @@ mod FewPrompts
 mod FewStatuses
 mod FrameOfAnotherOrigin
 mod GrantOnce
-mod GreatestDepth
 mod HeaderDeniesItself
 mod HeaderEnablesNothing
 mod HeaderForAnotherOrigin
@@ -23,7 +22,6 @@ mod LastKeyCounts
 mod LastPieceCounts
 mod LifeOfASetting
 mod MessageToAReplacedDocument
-mod MostPages
 mod NotOfTheGrammar
 mod Nothing
 mod NothingLongDuration

@@ -1,0 +1,2 @@
+//! Worked rows: the output text of whole scripts, from bytes to bytes, as theorems.
+#![tactic(auto)]
