@@ -1,8 +1,9 @@
 -- The facts that hold of each event that a line of a script gives.
 -- The script is this project's own format.
 -- They are one test that computes, so that a stamped event can keep them.
-use Rattle.std.specs.Prelude.{ℕ, Bool, true, false, not, ◌&&◌, ◌||◌, ◌==◌, nat_le, List, Option, Some, None, is_none, if◌then◌else◌}
-use Rattle.std.specs.List.{list_all}
+use Rattle.std.specs.Prelude.{ℕ, Bool, true, false, not, ◌&&◌, ◌||◌, nat_le, List, Option, Some, None, is_none}
+use Rattle.pe_base.specs.declared.limits.TheConstants.{NAME_LIMIT, TIME_LIMIT}
+use Rattle.pe_lines.specs.Words.{has_bad_byte}
 use Rattle.pe_events.specs.declared.event.Event.{Event}
 use Rattle.pe_events.specs.declared.event.Event.TheVariants as event
 use Rattle.pe_events.specs.declared.event.EventLife.{EventLife}
@@ -10,13 +11,9 @@ use Rattle.pe_events.specs.declared.event.EventLife.TheVariants as life
 use Rattle.pe_events.specs.declared.event.Outcome.{Outcome}
 use Rattle.pe_events.specs.declared.event.Outcome.TheVariants as outcome
 
--- a byte of a script's text: a tab, or printable ASCII
-abbrev pub is_text_byte : ℕ → Bool
-is_text_byte b = b == 9 || nat_le 32 b && nat_le b 126
-
--- a text of a script
+-- a text of a script: tabs and printable ASCII
 abbrev pub is_text : List ℕ → Bool
-is_text bytes = list_all is_text_byte bytes
+is_text bytes = not (has_bad_byte bytes)
 
 -- a text that may be missing
 abbrev pub is_text_or_none : Option (List ℕ) → Bool
@@ -25,11 +22,11 @@ is_text_or_none (Some bytes) = is_text bytes
 
 -- the number of an object as a script names it
 abbrev pub is_name : ℕ → Bool
-is_name n = nat_le 1 n && nat_le n 9999999
+is_name n = nat_le 1 n && nat_le n NAME_LIMIT
 
 -- a span in milliseconds
 abbrev pub is_span : ℕ → Bool
-is_span ms = nat_le 1 ms && nat_le ms 9999999999999
+is_span ms = nat_le 1 ms && nat_le ms TIME_LIMIT
 
 -- a span that may be missing
 abbrev pub is_span_or_none : Option ℕ → Bool

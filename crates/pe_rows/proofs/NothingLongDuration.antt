@@ -1,5 +1,5 @@
 -- The output text of a script, from its bytes to the bytes of the output.
-use Rattle.std.proofs.Common.{◌≡◌, [], ◌∷◌, ◌++◌, codes, refl}
+use Rattle.std.proofs.Common.{◌≡◌, [], refl}
 use Rattle.pe_output.specs.OutputText.{output_text}
 use Rattle.pe_rows.proofs.OnLiterals.{output_on_literals}
 

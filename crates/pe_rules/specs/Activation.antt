@@ -1,6 +1,6 @@
 -- User activation: which documents an input activates, what consumes it, sticky and transient activation.
--- HTML Standard, section 6.4 "Tracking user activation" ("activation notification", "consume user activation").
--- The duration is that of the run, in milliseconds.
+-- HTML Standard, "Tracking user activation" ("activation notification", "consume user activation", "sticky activation", "transient activation").
+-- The duration is that of the run, in milliseconds; which kinds of input trigger is this project's own table.
 use Rattle.std.specs.Prelude.{ℕ, ◌+◌, Bool, true, false, not, ◌&&◌, ◌||◌, ◌==◌, nat_lt, List, ◌∷◌, length, filter, Option, is_some, unwrap_or, option_map}
 use Rattle.std.specs.List.{list_any}
 use Rattle.pe_base.specs.declared.input.InputKind.{InputKind}

@@ -48,7 +48,7 @@ attribute_by (event.Embed parent src place allow sandbox fullscreen srcdoc heade
     when (k == f) (value_given n (record { src = src; srcdoc = srcdoc; allow = allow; sandbox = sandbox; fullscreen = fullscreen }))
 attribute_by e k f n = None
 
--- the attribute of the frame: that of the last event on it, and none in a frame of a page
+-- the attribute of the frame: that of the last event that gives it one; none in a top frame without such an event
 unfoldable pub attribute : Told → ℕ → AttrName → Option (List ℕ)
 attribute T f n = unwrap_or (newest (λ s B. attribute_by s.event (length (s ∷ B)) f n) T) None
 

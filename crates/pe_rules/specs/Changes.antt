@@ -1,5 +1,5 @@
 -- The change events that an event brings: those of the time that passes, and those of the event itself.
--- Permissions, section 6.3.3 "onchange attribute" ("PermissionStatus update steps").
+-- Permissions, "PermissionStatus update steps", the event change.
 -- That time passes millisecond by millisecond, and that statuses change by number, is this project's own.
 use Rattle.std.specs.Prelude.{ℕ, zero, suc, ◌+◌, ◌-◌, Bool, true, false, not, ◌==◌, List, [], ◌∷◌, filter, flat_map, Option, option_to_list}
 use Rattle.std.specs.List.{list_any}

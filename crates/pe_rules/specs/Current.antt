@@ -1,5 +1,5 @@
 -- Which documents are current, and which frames are live.
--- HTML Standard, section 7.3.3 "Fully active documents"; without session history the two are one.
+-- HTML Standard, "fully active"; without session history a document is current exactly where it is fully active.
 -- A document stays current until its frame, or one above it, gets another document or is closed.
 use Rattle.std.specs.Prelude.{ℕ, Bool, true, false, not, ◌&&◌, ◌==◌, List, map, Option, is_some, option_and_then}
 use Rattle.std.specs.List.{list_all, list_any}

@@ -1,7 +1,7 @@
 -- Delegating messages, and the capabilities that documents hold by them.
--- Capability Delegation, section 3 "Delegating a capability" (in outline); the tests and their order are this project's own.
--- A capability lasts for the duration from its delivery, until a use spends it.
-use Rattle.std.specs.Prelude.{ℕ, ◌+◌, Bool, true, false, not, ◌&&◌, ◌==◌, nat_lt, List, ◌∷◌, length, Option, Some, None, is_some, unwrap_or, option_map, option_and_then, option_to_list}
+-- Capability Delegation, "delegating capability", in outline.
+-- The tests and their order, and that a capability lasts for the duration until a use spends it, are this project's own.
+use Rattle.std.specs.Prelude.{ℕ, ◌+◌, Bool, true, false, not, ◌&&◌, ◌==◌, nat_lt, List, ◌∷◌, length, filter, Option, Some, None, is_some, unwrap_or, option_map, option_and_then}
 use Rattle.pe_features.specs.declared.capability.Capability.{Capability}
 use Rattle.pe_features.specs.Calls.{call_named, gate_of}
 use Rattle.pe_features.specs.Capabilities.{capability_named, feature_of}
@@ -13,7 +13,7 @@ use Rattle.pe_events.specs.declared.event.Event.TheVariants as event
 use Rattle.pe_events.specs.declared.reason.Verdict.TheVariants as verdict
 use Rattle.pe_events.specs.declared.reason.Via.TheVariants as via
 use Rattle.pe_rules.specs.History.{Item, Said, Judged, Step, Told, when, newest, each, step_at}
-use Rattle.pe_rules.specs.Numbering.{makes_message}
+use Rattle.pe_rules.specs.Numbering.{made, makes_message}
 use Rattle.pe_rules.specs.Making.{frame_of}
 use Rattle.pe_rules.specs.Embedders.{page_of_frame}
 use Rattle.pe_rules.specs.Current.{document_in}
@@ -40,14 +40,14 @@ message_by e B = None
 unfoldable pub message : Told → ℕ → Option Message
 message T m = option_and_then (λ a. message_by a.0.event a.1) (step_at T m)
 
--- the event delivers or drops the message
-abbrev pub delivers : Event → ℕ → Bool
-delivers (event.Deliver message) m = message == m
-delivers e m = false
+-- the event is a delivery of the message, whatever comes of it
+abbrev pub is_delivery_of : Event → ℕ → Bool
+is_delivery_of (event.Deliver message) m = message == m
+is_delivery_of e m = false
 
 -- the message is settled: a delivery names it, whatever was told
 unfoldable pub is_message_settled : Told → ℕ → Bool
-is_message_settled T m = is_some (newest (λ s B. when (delivers s.event m) m) T)
+is_message_settled T m = is_some (newest (λ s B. when (is_delivery_of s.event m) m) T)
 
 -- the message is one of the page that is not settled
 abbrev pub is_waiting_in : Told → ℕ → ℕ → Bool
@@ -55,7 +55,7 @@ is_waiting_in T top m = not (is_message_settled T m) && unwrap_or (option_map (�
 
 -- the messages of a page that are not settled
 unfoldable pub waiting_messages : Told → ℕ → List ℕ
-waiting_messages T top = each (λ s B. option_to_list (when (makes_message s.item && is_waiting_in T top (length (s ∷ B))) (length (s ∷ B)))) T
+waiting_messages T top = filter (is_waiting_in T top) (made (λ s. makes_message s.item) T)
 
 -- what was told is that a message was delivered
 abbrev pub is_delivered : Item → Bool

@@ -1,5 +1,5 @@
 -- The inherited policy of a document, and the value of a feature there for an origin.
--- Permissions Policy, section 9.7 "Define an inherited policy for feature in container at origin" and 9.5 "Is feature enabled in document for origin?".
+-- Permissions Policy, "define an inherited policy for feature in container at origin", "get feature value for origin".
 -- It is a second way to the decision on a feature.
 use Rattle.std.specs.Prelude.{ℕ, Bool}
 use Rattle.pe_features.specs.declared.feature.Feature.{Feature}

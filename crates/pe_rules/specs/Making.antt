@@ -1,5 +1,5 @@
 -- The making of a document: its frame, URL and header, its embedder, and the attributes in force.
--- HTML Standard, section 7.3.2 "Browsing contexts" ("container document") and 7.4 "Navigation and session history".
+-- HTML Standard, "container document", "navigate"; the attributes are those of its "iframe" element.
 -- A frame and its first document are made by one event, which is this project's own.
 use Rattle.std.specs.Prelude.{ℕ, ◌+◌, Bool, true, false, ◌==◌, List, [], ◌∷◌, length, codes, Option, Some, None, unwrap_or, option_map, option_and_then, if◌then◌else◌}
 use Rattle.pe_events.specs.declared.event.Event.{Event}

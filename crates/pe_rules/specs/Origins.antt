@@ -1,5 +1,5 @@
 -- The sandbox flag and the origin of a document, the declared origin of its container, secure contexts.
--- HTML Standard, 7.1.5 "Sandboxing", 7.1.1 "Origins"; Permissions Policy, "declared origin"; Secure Contexts, 3.
+-- HTML Standard, "sandboxed origin browsing context flag", "origin"; Permissions Policy, "declared origin"; Secure Contexts.
 -- That about:blank takes its embedder's origin, and that opaque origins have the document's number, is this project's own.
 use Rattle.std.specs.Prelude.{ℕ, Bool, true, false, not, ◌||◌, List, length, codes, bytes_eq, Option, Some, None, unwrap_or, option_map, if◌then◌else◌}
 use Rattle.std.specs.List.{list_any}

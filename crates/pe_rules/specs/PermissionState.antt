@@ -1,5 +1,5 @@
 -- The permission state of a feature for a document.
--- Permissions, section 3.2 "Getting the current permission state"; Permissions Policy comes before what is stored.
+-- Permissions, "permission state"; Permissions Policy comes before what is stored.
 -- The default permission state is prompt.
 use Rattle.std.specs.Prelude.{ℕ, not, ◌||◌, is_some, unwrap_or, option_and_then, if◌then◌else◌}
 use Rattle.pe_base.specs.declared.state.State.{State}

@@ -1,5 +1,5 @@
 -- Prompts: their requests, which are settled, which are pending, and the one that is shown.
--- Permissions, section 3.4 "Prompt the user to choose"; the queue of prompts is this project's own.
+-- Permissions, "prompt the user to choose"; the queue of prompts is this project's own.
 -- Requests of one pair in one page join one prompt.
 use Rattle.std.specs.Prelude.{ℕ, Bool, true, false, not, ◌&&◌, ◌==◌, List, [], ◌∷◌, ◌++◌, length, filter, Option, Some, None, is_some, unwrap_or, option_map, option_and_then, option_to_list}
 use Rattle.pe_events.specs.declared.answer.Answer.TheVariants as answer

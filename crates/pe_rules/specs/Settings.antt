@@ -1,5 +1,5 @@
 -- Permission keys, the settings of a pair of feature and key, how long they hold, and what is stored.
--- Permissions, section 3 ("permission store", "permission key") and 4.1 ("lifetime").
+-- Permissions, "permission store", "permission store entry", "permission key", "lifetime".
 -- Lives and the key of `storage-access` are this project's own.
 use Rattle.std.specs.Prelude.{ℕ, ◌+◌, Bool, true, false, ◌&&◌, nat_lt, List, ◌∷◌, length, Option, Some, None, is_some, option_map, option_and_then}
 use Rattle.pe_base.specs.declared.state.State.{State}

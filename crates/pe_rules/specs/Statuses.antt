@@ -1,5 +1,5 @@
 -- Permission statuses, and which of them are live.
--- Permissions, section 6.3 "PermissionStatus interface"; that the script drops them is this project's own.
+-- Permissions, the interface PermissionStatus; that the script drops them is this project's own.
 -- A status is live until it is dropped or its document is no longer current.
 use Rattle.std.specs.Prelude.{ℕ, Bool, true, false, ◌&&◌, ◌==◌, List, ◌∷◌, length, filter, Option, None, is_none, option_map, option_and_then, option_to_list}
 use Rattle.pe_features.specs.declared.feature.Feature.{Feature}

@@ -35,20 +35,9 @@ message_word word = object 109 word
 abbrev pub text_unless : List ℕ → Word → Option (List ℕ)
 text_unless keyword word = if is_keyword keyword word then None else Some word.text
 
--- several header lines are one, joined by a comma and a space
-abbrev pub joined_header : List ℕ → Option (List ℕ) → Option (List ℕ)
-joined_header text None = Some text
-joined_header text (Some more) = Some (text ++ codes ", " ++ more)
+-- ---- options
 
--- any number of `header TEXT`
-unfoldable pub headers : List Word → Option (Option (List ℕ))
-headers [] = Some None
-headers (keyword ∷ []) = None
-headers (keyword ∷ text ∷ more) = let rest = headers more in if is_keyword (codes "header") keyword then option_map (joined_header text.text) rest else None
-
--- ---- embed
-
--- the options of `embed` that take a text
+-- the options that take a text
 pub data OptionName : Type 0 where
   At : OptionName
   Allow : OptionName
@@ -73,7 +62,7 @@ no_options = record { place = None; allow = None; sandbox = None; fullscreen = f
 abbrev pub option_names : List (List ℕ × OptionName)
 option_names = (codes "at", At) ∷ (codes "allow", Allow) ∷ (codes "sandbox", Sandbox) ∷ (codes "header", Header) ∷ []
 
--- one more header line, behind the others
+-- one more header line, behind the others: several are one, joined by a comma and a space
 abbrev pub header_behind : Option (List ℕ) → List ℕ → Option (List ℕ)
 header_behind None text = Some text
 header_behind (Some before) text = Some (before ++ codes ", " ++ text)
@@ -101,6 +90,16 @@ with_word None word given = with_name word given
 unfoldable pub options : List Word → Option Options
 options words = option_and_then (λ given. if is_some given.waiting then None else Some given)
     (fold (λ so_far word. option_and_then (λ given. with_word given.waiting word given) so_far) (Some no_options) words)
+
+-- the header of options, where nothing else stands among them
+abbrev pub only_header : Options → Option (Option (List ℕ))
+only_header given =
+    if is_some given.place || is_some given.allow || is_some given.sandbox || given.fullscreen || given.srcdoc then None
+    else Some given.header
+
+-- any number of `header TEXT`
+unfoldable pub headers : List Word → Option (Option (List ℕ))
+headers words = option_and_then only_header (options words)
 
 -- `at` goes with a source and without `srcdoc`; `header` goes without `srcdoc`
 abbrev pub fits : Option (List ℕ) → Options → Bool
