@@ -34,6 +34,7 @@ mod LastPieceCounts
 mod LastSettingAlone
 mod LaterDelivery
 mod LifeOfASetting
+mod Limits
 mod LineTooLong
 mod LongestLine
 mod MessageToAReplacedDocument

@@ -1,4 +1,4 @@
--- The output text of a script, from its bytes to the bytes of the output.
+-- The output text of a script, from its bytes to the bytes of the output. Written by tools/rows.
 use Rattle.std.proofs.Common.{◌≡◌, [], ◌∷◌, ◌++◌, codes, refl}
 use Rattle.pe_output.specs.OutputText.{output_text}
 use Rattle.pe_rows.proofs.OnLiterals.{output_on_literals}
