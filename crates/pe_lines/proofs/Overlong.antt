@@ -1,14 +1,16 @@
 -- A line of which only its length is known to be too great, and the lines that a cutter finds.
 use Rattle.std.proofs.Common.{◌≡◌, ℕ, ◌+◌, ◌-◌, ◌<◌, ◌≤◌, Bool, true, false, List, [], ◌∷◌, ◌++◌, Option, Some, None, length, map, take, drop, sym, ap, ◌∙◌, refl, arith, append_assoc, length-append, subst}
-use Rattle.std.specs.Prelude.{◌==◌, if◌then◌else◌, slice_index}
+use Rattle.std.specs.Prelude.{◌==◌, if◌then◌else◌, slice_index, nat_lt}
 use Rattle.std.specs.List.{position}
 use Rattle.std.specs.Str.Lines.{strip_carriage_return}
 use Rattle.std.proofs.lemmas.List.{length-take, length-drop, length-replicate, take_at, drop-drop, drop_all, take_all}
 use Rattle.std.proofs.lemmas.List.Elements.{All-replicate, All-append, All-nil}
 use Rattle.std.proofs.lemmas.Bool.Decides.{nat_tests}
 use Rattle.pe_lines.specs.Lines.{is_line_feed, HasNoLineFeed, within_limit, lines, ended_lines, told_lines, told_ended_lines}
-use Rattle.pe_lines.specs.Rests.{filler, front_of}
-use Rattle.pe_lines.specs.Cutting.{SameLines, TakesLine, TakesLast}
+use Rattle.pe_base.specs.declared.limits.TheConstants.{LINE_LIMIT}
+use Rattle.pe_lines.specs.Rests.{Rest, filler, front_of}
+use Rattle.pe_lines.specs.declared.cutter.Found.TheVariants.{Overlong, Line}
+use Rattle.pe_lines.specs.Cutting.{SameLines, TakesLine, TakesLast, TakesNext, Finds, found_of}
 use Rattle.pe_lines.proofs.Parts.{lines-first, lines-last, ended-first, ended-none, split_first, none_first, takes_first, takes_last}
 
 pub length-filler : length filler ≡ 16386
@@ -23,12 +25,9 @@ strip-length : (line : List ℕ) → length line ≤ length (strip_carriage_retu
 strip-length line = elim (slice_index line (length line - 1) == 13) as (λ b. length line ≤ length (if b then take (length line - 1) line else line) + 1)
     [ true ↦ omega (arith, length-take (length line - 1) line) | false ↦ omega arith ]
 
--- what is told of a line, by its length
-pub is_long : (line : List ℕ) → 16384 < length line → None ≡ within_limit line
+-- nothing is told of a long line
+is_long : (line : List ℕ) → 16384 < length line → None ≡ within_limit line
 is_long line h = grind (arith, nat_tests)
-
-pub is_short : (line : List ℕ) → length line ≤ 16384 → Some line ≡ within_limit line
-is_short line h = grind (arith, nat_tests)
 
 -- it is too long, also without a carriage return at its end
 long_line : (part : List ℕ) → 16385 < length part → None ≡ within_limit (strip_carriage_return part)
@@ -120,10 +119,6 @@ takes_held held bytes new text at n long line view e is same l k =
     takes_part held bytes new at n long line view e (same ∙ ap (λ b. front_of b ++ drop (at + n + 1) held) is)
     (k ∙ ap within_limit (l ∙ ap (λ m. strip_carriage_return (take m (drop at held))) len) ∙ ap (λ b. within_limit (strip_carriage_return (front_of b ++ take n (drop at held)))) (sym is))
 
--- how long the line is that stands at a place
-pub line_length : (held : List ℕ) (start end most : ℕ) → start ≤ end → end ≤ most → most ≤ length held → length (take (end - start) (drop start held)) ≡ end - start
-line_length held start end most a b c = omega (arith, length-take (end - start) (drop start held), length-drop start held)
-
 -- the last line
 pub takes_last_long : (held bytes : List ℕ) (at end : ℕ) (long : Bool) → front_of long ++ drop at held ≡ bytes → HasNoLineFeed bytes → long ≡ true → length held ≤ end → TakesLast bytes (drop end held) None
 takes_last_long held bytes at end long view none is all =
@@ -151,3 +146,11 @@ same_nothing old new a b = record {
   ended = λ more. ap (λ l. told_ended_lines (l ++ more)) (a ∙ sym b);
   fewer = omega (arith, ap length a, ap length b);
 }
+
+-- a line that was taken off is found by its length
+found_by : (old new : Rest) (long : Bool) → TakesNext old new (if long then None else Some new.line) → Finds old new (if long then Overlong else Line)
+found_by old new true h = h
+found_by old new false h = h
+
+pub is_found : (old new : Rest) → TakesNext old new (within_limit new.line) → Finds old new (found_of new.line)
+is_found old new h = found_by old new (nat_lt LINE_LIMIT (length new.line)) h

@@ -25,9 +25,6 @@ position_some bytes n e = grind (arith, nat_tests)
 position_none : (bytes : List ℕ) → position is_line_feed bytes ≡ None → length bytes ≤ position_or_len is_line_feed bytes
 position_none bytes e = grind (arith, nat_tests)
 
-pub position-below : (bytes : List ℕ) (n : ℕ) → position is_line_feed bytes ≡ Some n → n < length bytes
-position-below bytes n e = grind (arith, nat_tests)
-
 -- where the first line feed stands the bytes are a part, the line feed and a rest
 pub split_first : (bytes : List ℕ) (n : ℕ) → position is_line_feed bytes ≡ Some n → HasNoLineFeed (take n bytes) × (bytes ≡ take n bytes ++ 10 ∷ drop (n + 1) bytes)
 split_first bytes n e =

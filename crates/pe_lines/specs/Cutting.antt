@@ -1,7 +1,8 @@
 -- What the calls of a cutter do to the rest of the input that it stands for.
 -- This project's own.
 -- What is said of a rest holds whatever is fed behind it, so the lines never depend on how the input was cut.
-use Rattle.std.specs.Prelude.{◌≡◌, ℕ, ◌+◌, ◌≤◌, List, [], ◌∷◌, ◌++◌, length, Some, None, Option, IsTrue, ◌⊎◌}
+use Rattle.std.specs.Prelude.{◌≡◌, ℕ, ◌+◌, ◌≤◌, List, [], ◌∷◌, ◌++◌, length, Some, None, Option, IsTrue, ◌⊎◌, if◌then◌else◌, nat_lt}
+use Rattle.pe_base.specs.declared.limits.TheConstants.{LINE_LIMIT}
 use Rattle.pe_lines.specs.Lines.{told_lines, told_ended_lines}
 use Rattle.pe_lines.specs.Rests.{Rest}
 use Rattle.pe_lines.specs.declared.cutter.Cut.{Cut}
@@ -51,6 +52,10 @@ pub record HasNoLine (old new : Rest) : Type 0 where
 abbrev pub IsNext : Rest → Rest → Option Cut → Type 0
 IsNext old new None = HasNoLine old new
 IsNext old new (Some cut) = TakesNext old new (told cut)
+
+-- a line is found by its length
+abbrev pub found_of : List ℕ → Found
+found_of line = if nat_lt LINE_LIMIT (length line) then Overlong else Line
 
 -- what stands next
 abbrev pub Finds : Rest → Rest → Found → Type 0

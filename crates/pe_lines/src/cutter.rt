@@ -64,7 +64,7 @@ impl Model for Cutter {
 
 impl Cutter {
     ghost use Rattle.pe_lines.specs.Rests.{filler};
-    ghost use Rattle.pe_lines.specs.Cutting.{IsNext, SameLines, Finds};
+    ghost use Rattle.pe_lines.specs.Cutting.{IsNext, SameLines, Finds, found_of};
     ghost use Rattle.pe_lines.specs.contracts.cutter.Cutter.{the_row};
 
     /// A cutter that was fed nothing.
@@ -144,10 +144,7 @@ impl Cutter {
                     self.long = false;
                     return Found::Overlong;
                 }
-                if self.end - self.start > LINE_LIMIT {
-                    return Found::Overlong;
-                }
-                Found::Line
+                self.found()
             }
             None => {
                 if self.finished {
@@ -179,6 +176,13 @@ impl Cutter {
         self.at = self.held.len();
         self.scanned = self.at;
         self.end = line_end(&self.held, self.start, self.at);
+        self.found()
+    }
+
+    /// Whether the line that was found last is too long.
+    fn found(&self) -> Found
+        ensures { result ≡ found_of self.now.line }
+    {
         if self.end - self.start > LINE_LIMIT {
             return Found::Overlong;
         }

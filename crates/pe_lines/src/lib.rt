@@ -10,3 +10,6 @@ pub use cutter::{Cut, Cutter};
 pub use laws::{cuts_go_on, ended_lines_stay, words_are_by_grammar};
 pub use text::Text;
 pub use word::{Word, WordFault, words};
+
+#[cfg(test)]
+mod tests;

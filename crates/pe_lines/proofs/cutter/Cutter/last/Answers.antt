@@ -1,8 +1,9 @@
-use Rattle.std.proofs.Common.{◌≡◌, ◌<◌, ◌≤◌, ◌-◌, Some, None, take, drop, length, ap, arith, inr, refl}
+use Rattle.std.proofs.Common.{◌≡◌, ◌<◌, ◌≤◌, ◌-◌, take, drop, length, ap, arith, inr, refl}
 use Rattle.std.specs.Str.Lines.{strip_carriage_return}
+use Rattle.pe_lines.specs.Lines.{within_limit}
 use Rattle.pe_lines.specs.Rests.{Rest}
 use Rattle.pe_lines.proofs.Parts.{told-nothing}
-use Rattle.pe_lines.proofs.Overlong.{takes_last_long, takes_last_held, line_length, is_short, is_long, nothing_left, same_nothing}
+use Rattle.pe_lines.proofs.Overlong.{takes_last_long, takes_last_held, is_found, nothing_left, same_nothing}
 use Rattle.pe_lines.proofs.cutter.Cutter.last.Goals as goal
 
 pub returns-then-self : goal.returns-then-self
@@ -30,27 +31,6 @@ returns-then-self-len c =
       few = omega (arith, c.let_go.ensures.kept);
     }
 
-pub returns-then-self-gt-LINE_LIMIT : goal.returns-then-self-gt-LINE_LIMIT
-returns-then-self-gt-LINE_LIMIT c =
-    let held = c.self.inside.held.items in
-    let at = c.self.inside.at in
-    let view = ap (λ (v : Rest). v.bytes) c.self.view_is in
-    let end = c.line_end-self-inside.result in
-    let most = c.len-self-inside-2.result in
-    let e : take (end - at) (drop at held) ≡ strip_carriage_return (take (most - at) (drop at held)) = rw c.deref.ensures.value at c.line_end-self-inside.ensures.line in
-    let all : length held ≤ most = omega (arith, c.len-self-inside-2.ensures, c.self.inside.held.ok.0) in
-    let same : most ≤ length held = omega (arith, c.len-self-inside-2.ensures, c.self.inside.held.ok.0) in
-    let within : at < length held = omega (arith, c.if-self-len.false, c.len.ensures, c.self.inside.held.ok.0, c.self.invariant.looked, c.self.invariant.looked_within) in
-    let len = line_length held at end most c.line_end-self-inside.ensures.ordered c.line_end-self-inside.ensures.within same in
-    let over : 16384 < length (take (end - at) (drop at held)) = omega (arith, len, c.if-self-gt-LINE_LIMIT.true) in
-    record {
-      finished = ap (λ (v : Rest). v.finished) c.self.view_is;
-      taken = inr (
-        c.requires.finished,
-        takes_last_held held _ _ (take (end - at) (drop at held)) at most c.self.inside.long None view c.requires.none c.if-self.false all within refl e (is_long _ over),
-      );
-    }
-
 pub returns : goal.returns
 returns c =
     let held = c.self.inside.held.items in
@@ -58,16 +38,11 @@ returns c =
     let view = ap (λ (v : Rest). v.bytes) c.self.view_is in
     let end = c.line_end-self-inside.result in
     let most = c.len-self-inside-2.result in
-    let e : take (end - at) (drop at held) ≡ strip_carriage_return (take (most - at) (drop at held)) = rw c.deref.ensures.value at c.line_end-self-inside.ensures.line in
+    let line = take (end - at) (drop at held) in
+    let e : line ≡ strip_carriage_return (take (most - at) (drop at held)) = rw c.deref.ensures.value at c.line_end-self-inside.ensures.line in
     let all : length held ≤ most = omega (arith, c.len-self-inside-2.ensures, c.self.inside.held.ok.0) in
-    let same : most ≤ length held = omega (arith, c.len-self-inside-2.ensures, c.self.inside.held.ok.0) in
     let within : at < length held = omega (arith, c.if-self-len.false, c.len.ensures, c.self.inside.held.ok.0, c.self.invariant.looked, c.self.invariant.looked_within) in
-    let len = line_length held at end most c.line_end-self-inside.ensures.ordered c.line_end-self-inside.ensures.within same in
-    let short : length (take (end - at) (drop at held)) ≤ 16384 = omega (arith, len, c.if-self-gt-LINE_LIMIT.false) in
-    record {
+    rw c.found.ensures (is_found _ _ (record {
       finished = ap (λ (v : Rest). v.finished) c.self.view_is;
-      taken = inr (
-        c.requires.finished,
-        takes_last_held held _ _ (take (end - at) (drop at held)) at most c.self.inside.long (Some (take (end - at) (drop at held))) view c.requires.none c.if-self.false all within refl e (is_short _ short),
-      );
-    }
+      taken = inr (c.requires.finished, takes_last_held held _ _ line at most c.self.inside.long (within_limit line) view c.requires.none c.if-self.false all within refl e refl);
+    }))
