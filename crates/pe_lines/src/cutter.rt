@@ -97,9 +97,7 @@ impl Cutter {
 
     /// Says that the input ended.
     pub fn finish(&mut self)
-        ensures bytes { self.new.bytes ≡ self.old.bytes }
-        ensures finished { self.new.finished ≡ true }
-        ensures kept { self.new.kept ≡ self.old.kept }
+        ensures { self.new ≡ record self.old { finished = true } }
     {
         self.finished = true;
     }
