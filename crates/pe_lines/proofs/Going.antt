@@ -1,7 +1,8 @@
 -- How the lines that were taken off an input go on.
-use Rattle.std.proofs.Common.{◌≡◌, ℕ, List, [], ◌∷◌, ◌++◌, Option, sym, ap, ◌∙◌, refl, append_assoc, append-nil, arith, length-append}
+use Rattle.std.proofs.Common.{◌≡◌, ℕ, List, [], ◌∷◌, ◌++◌, Option, sym, ap, ◌∙◌, refl, append_assoc, append-nil, arith, length-append, false, inl, inr}
 use Rattle.pe_lines.specs.Lines.{lines, told_lines, told_ended_lines}
-use Rattle.pe_lines.specs.Cutting.{Cuts, TakesLast}
+use Rattle.pe_lines.specs.Rests.{Rest}
+use Rattle.pe_lines.specs.Cutting.{Cuts, TakesLine, TakesLast, TakesNext}
 
 pub cuts_none : (bytes : List ℕ) → Cuts bytes [] bytes
 cuts_none bytes = record { all = λ more. refl; ended = λ more. refl; fewer = omega arith }
@@ -34,3 +35,12 @@ lines-nil = refl
 
 pub cuts_all : (bytes : List ℕ) (done : List (Option (List ℕ))) → Cuts bytes done [] → told_lines bytes ≡ done
 cuts_all bytes done h = ap told_lines (sym (append-nil bytes)) ∙ h.all [] ∙ ap (λ ls. done ++ ls) lines-nil ∙ append-nil done
+
+pub takes_open : (old new : Rest) (line : Option (List ℕ)) → old.finished ≡ false → TakesNext old new line → TakesLine old.bytes new.bytes line
+takes_open old new line open_still next = elim next.taken [ inl t ↦ t | inr t ↦ absurd (cc (t.0, open_still)) ]
+
+no_line_taken : (old new : List ℕ) (line : Option (List ℕ)) → told_ended_lines old ≡ [] → TakesLine old new line → ⊥
+no_line_taken old new line none t = let both : line ∷ told_ended_lines (new ++ []) ≡ [] = sym (t.ended []) ∙ ap told_ended_lines (append-nil old) ∙ none in cc both
+
+pub takes_final : (old new : Rest) (line : Option (List ℕ)) → told_ended_lines old.bytes ≡ [] → TakesNext old new line → TakesLast old.bytes new.bytes line
+takes_final old new line none next = elim next.taken [ inl t ↦ absurd (no_line_taken old.bytes new.bytes line none t) | inr t ↦ t.1 ]

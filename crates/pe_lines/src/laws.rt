@@ -1,9 +1,10 @@
 //! Laws of lines and words, for proofs of callers: each function only states what is true of the
 //! definitions, and does nothing.
-ghost use Rattle.std.specs.Prelude.{◌≡◌, ℕ, ◌↔◌, List, [], ◌∷◌, ◌++◌, Option, Some};
+ghost use Rattle.std.specs.Prelude.{◌≡◌, ℕ, ◌↔◌, List, [], ◌∷◌, ◌++◌, Option, Some, false};
 ghost use Rattle.pe_lines.specs.declared.word.Word.{Word};
 ghost use Rattle.pe_lines.specs.Lines.{told_lines, told_ended_lines};
-ghost use Rattle.pe_lines.specs.Cutting.{Cuts, TakesLast};
+ghost use Rattle.pe_lines.specs.Rests.{Rest};
+ghost use Rattle.pe_lines.specs.Cutting.{Cuts, TakesLine, TakesLast, TakesNext};
 ghost use Rattle.pe_lines.specs.Words.{words_of};
 ghost use Rattle.pe_lines.specs.Grammar.{AreWords};
 
@@ -28,6 +29,12 @@ pub fn cuts_go_on()
         Cuts bytes done rest → Cuts (bytes ++ piece) done (rest ++ piece) }
     ensures join { (bytes : List ℕ) → (done : List (Option (List ℕ))) → (mid : List ℕ) → (next : List (Option (List ℕ))) → (rest : List ℕ) →
         Cuts bytes done mid → Cuts mid next rest → Cuts bytes (done ++ next) rest }
+
+    // Before the input ends a line feed ended the line that is taken off; where none is left it is the last.
+    ensures before_end { (old : Rest) → (new : Rest) → (line : Option (List ℕ)) →
+        old.finished ≡ false → TakesNext old new line → TakesLine old.bytes new.bytes line }
+    ensures at_end { (old : Rest) → (new : Rest) → (line : Option (List ℕ)) →
+        told_ended_lines old.bytes ≡ [] → TakesNext old new line → TakesLast old.bytes new.bytes line }
 
     // No whole line is left, the last line was taken off, and nothing is left.
     ensures ended { (bytes : List ℕ) → (done : List (Option (List ℕ))) → (rest : List ℕ) →
