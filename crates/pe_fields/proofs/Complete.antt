@@ -1,6 +1,6 @@
 -- What is in the grammar is read.
 use Rattle.std.proofs.Common.{◌≡◌, ℕ, ◌+◌, ◌*◌, ◌≤◌, Bool, true, false, cond, eqb, leb, ◌||◌, List, [], ◌∷◌, ◌++◌, length, Option, Some, None, refl, ap, sym, ◌∙◌, subst, append_assoc, arith, inl, inr, flat_map, codes}
-use Rattle.std.specs.List.{list_all}
+use Rattle.std.specs.List.{take_while, list_all}
 use Rattle.std.specs.Str.Parse.{digits_value}
 use Rattle.std.proofs.lemmas.Bool.{eqb-true, leb-true, le-leb, true≢false}
 use Rattle.pe_fields.specs.declared.value.Bare.{Bare}
@@ -8,7 +8,7 @@ use Rattle.pe_fields.specs.declared.value.Bare.TheVariants.{Integer, Decimal, Te
 use Rattle.pe_fields.specs.declared.value.Param.{Param}
 use Rattle.pe_fields.specs.Alphabet.{is_space, is_white, is_digit, is_key_start, is_key_byte, is_token_start, is_token_byte, is_text_byte, is_base64_byte}
 use Rattle.pe_fields.specs.Numbers.{signed, thousandths}
-use Rattle.pe_fields.specs.Reading.{option_map_or, read_map, skip_spaces, behind, key_at, is_count, number_at, text_at, binary_at, bare_at, given_at, param_at}
+use Rattle.pe_fields.specs.Reading.{drop_while, option_map_or, read_map, skip_spaces, behind, key_at, is_count, number_at, text_at, binary_at, bare_at, given_at, param_at}
 use Rattle.pe_fields.specs.Grammar.{IsKey, IsDigits, sign, IsToken, IsBare, IsGiven, IsParam, spelled_byte}
 use Rattle.pe_fields.proofs.Tools.{and_parts, and_both, Stops, run_take, run_drop, neither, four_parts, decimal_text, not_token}
 
@@ -143,7 +143,7 @@ signed_decimal true whole fraction rest w f e = ap bare_at (decimal_text (codes 
 signed_decimal false whole fraction rest w f e =
     ap bare_at (decimal_text [] whole fraction rest) ∙ digits_start whole (46 ∷ (fraction ++ rest)) 12 w ∙ decimal_complete false whole fraction rest w f e
 
-text_quote : (bs : List ℕ) → text_at (34 ∷ bs) ≡ Some ([], bs)
+pub text_quote : (bs : List ℕ) → text_at (34 ∷ bs) ≡ Some ([], bs)
 unfolding text_at
 text_quote [] = refl
 text_quote (c ∷ bs) = refl
@@ -152,12 +152,19 @@ text_escape : (c : ℕ) (bs : List ℕ) → (eqb c 34 || eqb c 92) ≡ true → 
 unfolding text_at
 text_escape c bs h = rw h refl
 
-text_plain : (b : ℕ) (bs : List ℕ) → eqb b 34 ≡ false → eqb b 92 ≡ false → is_text_byte b ≡ true → text_at (b ∷ bs) ≡ read_map (λ text. b ∷ text) (text_at bs)
+nothing_either_way : (v : Bool) (read : Option (List ℕ × List ℕ)) → cond v read read ≡ read
+nothing_either_way true read = refl
+nothing_either_way false read = refl
+
+pub text_other : (b : ℕ) (bs : List ℕ) → eqb b 34 ≡ false → eqb b 92 ≡ false → text_at (b ∷ bs) ≡ cond (is_text_byte b) (read_map (λ text. b ∷ text) (text_at bs)) None
 unfolding text_at
-text_plain b [] x y h = rw x refl
-text_plain b (c ∷ bs) x y h =
-    let body : Bool → Bool → Bool → Option (List ℕ × List ℕ) = λ v w u. elim v [ true ↦ Some ([], c ∷ bs) | false ↦ elim w [ true ↦ cond (eqb c 34 || eqb c 92) (read_map (λ text. c ∷ text) (text_at bs)) None | false ↦ cond u (read_map (λ text. b ∷ text) (text_at (c ∷ bs))) None ] ] in
-    ap (λ v. body v (eqb b 92) (is_text_byte b)) x ∙ ap (λ w. body false w (is_text_byte b)) y ∙ ap (λ u. body false false u) h
+text_other b [] x y = rw x (sym (nothing_either_way (is_text_byte b) None))
+text_other b (c ∷ bs) x y =
+    let body : Bool → Bool → Option (List ℕ × List ℕ) = λ v w. elim v [ true ↦ Some ([], c ∷ bs) | false ↦ elim w [ true ↦ cond (eqb c 34 || eqb c 92) (read_map (λ text. c ∷ text) (text_at bs)) None | false ↦ cond (is_text_byte b) (read_map (λ text. b ∷ text) (text_at (c ∷ bs))) None ] ] in
+    ap (λ v. body v (eqb b 92)) x ∙ ap (λ w. body false w) y
+
+text_plain : (b : ℕ) (bs : List ℕ) → eqb b 34 ≡ false → eqb b 92 ≡ false → is_text_byte b ≡ true → text_at (b ∷ bs) ≡ read_map (λ text. b ∷ text) (text_at bs)
+text_plain b bs x y h = text_other b bs x y ∙ rw h refl
 
 text_complete : (bytes rest : List ℕ) → list_all is_text_byte bytes ≡ true → text_at ((flat_map spelled_byte bytes ++ codes "\"") ++ rest) ≡ Some (bytes, rest)
 text_complete [] rest h = text_quote rest
@@ -176,6 +183,10 @@ unfolding binary_at
 binary_complete bytes rest h =
     rw (append_assoc bytes (codes ":") rest)
     (rw (run_take is_base64_byte bytes (58 ∷ rest) h refl, run_drop is_base64_byte bytes (58 ∷ rest) h refl) refl)
+
+pub token_start_at : (b : ℕ) (bs : List ℕ) → is_token_start b ≡ true → bare_at (b ∷ bs) ≡ Some (Token (b ∷ take_while is_token_byte bs), drop_while is_token_byte bs)
+unfolding bare_at
+token_start_at b bs h = rw (apart is_token_start b 34 h refl, apart is_token_start b 58 h refl, apart is_token_start b 63 h refl, h) refl
 
 token_complete : (bytes rest : List ℕ) → IsToken bytes bytes → Ends rest → bare_at (bytes ++ rest) ≡ Some (Token bytes, rest)
 unfolding bare_at

@@ -1,5 +1,5 @@
 -- What is read is in the grammar.
-use Rattle.std.proofs.Common.{◌≡◌, ℕ, zero, suc, Bool, true, false, cond, eqb, leb, ◌&&◌, ◌||◌, List, [], ◌∷◌, ◌++◌, length, Option, Some, None, option_map, refl, ap, ◌∙◌, subst, append_assoc, inl, inr, flat_map, codes}
+use Rattle.std.proofs.Common.{◌+◌, ◌≤◌, ◌<◌, length-append, arith, ◌≡◌, ℕ, zero, suc, Bool, true, false, cond, eqb, leb, ◌&&◌, ◌||◌, List, [], ◌∷◌, ◌++◌, length, Option, Some, None, option_map, refl, ap, ◌∙◌, subst, append_assoc, inl, inr, flat_map, codes}
 use Rattle.std.specs.List.{take_while, list_all}
 use Rattle.std.proofs.lemmas.Option.{none-some, same_Some}
 use Rattle.std.proofs.lemmas.Bool.{eqb-true, leb-true}
@@ -13,6 +13,8 @@ use Rattle.pe_fields.specs.declared.value.Member.{Member}
 use Rattle.pe_fields.specs.Alphabet.{is_space, is_white, is_digit, is_key_start, is_key_byte, is_token_start, is_token_byte, is_text_byte, is_base64_byte}
 use Rattle.pe_fields.specs.Reading.{Read, option_map_or, read_map, drop_while, skip_spaces, skip_white, behind, each, key_at, is_count, integer_of, decimal_of, decimal_at, number_at, text_at, binary_at, truth_at, bare_at, given_at, param_at, params_at, item_at, next_item_at, items_from, items_at, inner_at, listed_at, value_at, member_at, next_member_at, members_of, is_empty, dictionary}
 use Rattle.pe_fields.specs.Grammar.{IsKey, IsDigits, sign, IsTruth, IsBare, IsEach, IsGiven, IsParam, IsParams, IsItem, IsNextItem, IsItems, IsInner, IsValue, IsGivenValue, IsMember, IsNextMember, IsField, spelled_byte}
+use Rattle.pe_fields.proofs.Filled.{param_filled, next_item_filled, next_member_filled}
+use Rattle.pe_fields.proofs.Loops.{Shrinks}
 use Rattle.pe_fields.proofs.Tools.{bind_some, map_some, guard_some, chosen, or_cases, all_passed, and_parts, and_both, glue, behind_some, run_split, run_all}
 
 -- the text is one of these and the bytes behind it
@@ -349,3 +351,24 @@ dictionary_sound text members e = elim (chosen (is_empty (skip_spaces text)) _ _
         is_trailing = all_passed is_white trailing q.0;
       })
 ]
+
+-- what is read is not nothing, so less is left
+shorter : (text front rest : List ℕ) → text ≡ front ++ rest → 1 ≤ length front → length rest < length text
+shorter text front rest e l =
+    let all : length text ≡ length front + length rest = ap length e ∙ length-append front rest in
+    omega arith
+
+pub param_shrinks : Shrinks param_at
+param_shrinks text r e =
+    let f = param_found text r e in
+    shorter text f.0 r.1 f.1 (param_filled f.0 r.0 f.2)
+
+pub next_item_shrinks : Shrinks next_item_at
+next_item_shrinks text r e =
+    let f = next_item_found text r e in
+    shorter text f.0 r.1 f.1 (next_item_filled f.0 r.0 f.2)
+
+pub next_member_shrinks : Shrinks next_member_at
+next_member_shrinks text r e =
+    let f = next_member_found text r e in
+    shorter text f.0 r.1 f.1 (next_member_filled f.0 r.0 f.2)

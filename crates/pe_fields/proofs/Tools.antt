@@ -1,8 +1,8 @@
 -- What an option, a test and a run of bytes tell.
-use Rattle.std.proofs.Common.{◌≡◌, ℕ, Bool, true, false, cond, eqb, ◌&&◌, ◌||◌, ◌⊎◌, inl, inr, append-nil, List, [], ◌∷◌, ◌++◌, Option, Some, None, option_map, option_and_then, refl, ap, sym, ◌∙◌, append_assoc, arith, ◌≤◌}
+use Rattle.std.proofs.Common.{◌≡◌, ℕ, Bool, true, false, cond, eqb, ◌&&◌, ◌||◌, ◌⊎◌, inl, inr, append-nil, List, [], ◌∷◌, ◌++◌, Option, Some, None, option_map, option_and_then, refl, ap, sym, ◌∙◌, append_assoc, arith, ◌≤◌, ◌+◌, drop, length, suc}
 use Rattle.std.proofs.lemmas.Bool.Decides.{nat_tests}
 use Rattle.pe_fields.specs.Alphabet.{is_token_start}
-use Rattle.std.specs.List.{take_while, list_all}
+use Rattle.std.specs.List.{prefix_len, take_while, list_all}
 use Rattle.std.proofs.lemmas.List.Sums.{take_while-cons}
 use Rattle.std.proofs.lemmas.Bool.{eqb-true}
 use Rattle.std.proofs.lemmas.Option.{none-some, same_Some}
@@ -108,3 +108,14 @@ decimal_text a b c d = simp append_assoc
 
 pub not_token : (b : ℕ) → 48 ≤ b → b ≤ 57 → is_token_start b ≡ false
 not_token b low high = grind (arith, nat_tests)
+
+-- the bytes behind a run are those from its length on
+pub drop_while_is : (test : ℕ → Bool) (text : List ℕ) → (drop_while test text ≡ drop (prefix_len test text) text) × (prefix_len test text ≤ length text)
+drop_while_is test [] = (refl, omega arith)
+drop_while_is test (b ∷ bs) =
+    let later = drop_while_is test bs in
+    let one : suc (prefix_len test bs) ≡ 1 + prefix_len test bs = omega arith in
+    (elim (test b) as (λ v. (cond v (drop_while test bs) (b ∷ bs) ≡ drop (cond v (1 + prefix_len test bs) 0) (b ∷ bs)) × (cond v (1 + prefix_len test bs) 0 ≤ length (b ∷ bs))) [
+      | true ↦ (later.0 ∙ ap (λ n. drop n (b ∷ bs)) one, omega (arith, later.1))
+      | false ↦ (refl, omega arith)
+    ])

@@ -14,6 +14,7 @@ use Rattle.pe_fields.specs.Alphabet.{is_space, is_white, is_key_byte}
 use Rattle.pe_fields.specs.Reading.{Read, option_map_or, read_map, drop_while, skip_spaces, behind, each, number_at, bare_at, param_at, params_at, item_at, next_item_at, items_from, items_at, inner_at, listed_at, value_at, member_at, next_member_at, members_of, is_empty, dictionary}
 use Rattle.pe_fields.specs.Grammar.{IsKey, IsEach, IsParam, IsParams, IsItem, IsNextItem, IsInner, IsValue, IsGivenValue, IsMember, IsNextMember, IsField}
 use Rattle.pe_fields.proofs.Tools.{and_parts, and_both, or_cases, Stops, run_drop, four_parts}
+use Rattle.pe_fields.proofs.Filled.{param_filled, next_item_filled, next_member_filled}
 use Rattle.pe_fields.proofs.Complete.{Closes, nothing, space, tab, comma, parenthesis, Ends, closes, ends_key, ends_equals, closes_params, key_complete, key_not_space, key_not_white, bare_complete, param_complete, param_ends}
 
 -- what one text spells, its own reader finds, and texts of its kind may stand behind one another
@@ -42,9 +43,6 @@ each_complete One one Follows reader text (x ∷ xs) rest h f none (suc n) l =
     let one_is : one (h.0 ++ (h.1 ++ rest)) ≡ Some (x, h.1 ++ rest) = reader.found h.0 x (h.1 ++ rest) h.3 (each_follows One one Follows reader h.1 xs rest h.4 f) in
     let more : each one n (h.1 ++ rest) ≡ (xs, rest) = each_complete One one Follows reader h.1 xs rest h.4 f none n (omega arith) in
     ap (λ t. each one (suc n) t) parts ∙ rw (one_is, more) refl
-
-param_filled : (text : List ℕ) (param : Param) → IsParam text param → 1 ≤ length text
-param_filled text param h = rw h.spelled (omega arith)
 
 params_reader : IsReader IsParam param_at Ends
 params_reader = record { found = param_complete; follows = param_ends; filled = param_filled }
@@ -105,9 +103,6 @@ next_item_complete text item rest h c =
 
 next_item_closes : (text : List ℕ) (item : Item) (rest : List ℕ) → IsNextItem text item → Closes (text ++ rest)
 next_item_closes text item rest h = subst (λ t. Closes (t ++ rest)) (sym h.spelled) (space _)
-
-next_item_filled : (text : List ℕ) (item : Item) → IsNextItem text item → 1 ≤ length text
-next_item_filled text item h = rw h.spelled (omega arith)
 
 items_reader : IsReader IsNextItem next_item_at Closes
 items_reader = record { found = next_item_complete; follows = next_item_closes; filled = next_item_filled }
@@ -225,12 +220,6 @@ next_member_closes text member rest h =
 key_filled : (key more : List ℕ) → IsKey key → is_empty (key ++ more) ≡ false
 key_filled [] more k = absurd k
 key_filled (b ∷ bs) more k = refl
-
-next_member_filled : (text : List ℕ) (member : List ℕ × Member) → IsNextMember text member → 1 ≤ length text
-next_member_filled text member h =
-    let parts : text ≡ h.before ++ 44 ∷ (h.after ++ h.member_text) = h.spelled ∙ simp append_assoc in
-    let all : length text ≡ length h.before + length (44 ∷ (h.after ++ h.member_text)) = ap length parts ∙ length-append h.before (44 ∷ (h.after ++ h.member_text)) in
-    omega arith
 
 members_reader : IsReader IsNextMember next_member_at Closes
 members_reader = record { found = next_member_complete; follows = next_member_closes; filled = next_member_filled }

@@ -54,6 +54,11 @@ abbrev pub is_empty : List ℕ → Bool
 is_empty [] = true
 is_empty (b ∷ bs) = false
 
+-- the text begins with a byte that passes the test
+abbrev pub begins : (ℕ → Bool) → List ℕ → Bool
+begins test [] = false
+begins test (b ∷ bs) = test b
+
 -- as many as can be read, one behind the other; the number only bounds how many
 unfoldable pub each : {A : Type 0} → (List ℕ → Read A) → ℕ → List ℕ → List A × List ℕ
 each one zero text = ([], text)
@@ -193,12 +198,18 @@ next_member_at text = do
   rest ← behind 44 (skip_white text)
   member_at (skip_white rest)
 
+-- a member and the members behind it
+abbrev pub members_from : (List ℕ × Member) × List ℕ → List (List ℕ × Member) × List ℕ
+members_from first =
+    let others = each next_member_at (length first.1) first.1 in
+    (first.0 ∷ others.0, others.1)
+
 -- the members of a dictionary, of which there is one or more, up to the end of the text
 unfoldable pub members_of : List ℕ → Option (List (List ℕ × Member))
 members_of text = do
   first ← member_at text
-  let others = each next_member_at (length first.1) first.1
-  if is_empty (skip_white others.1) then Some (first.0 ∷ others.0) else None
+  let members = members_from first
+  if is_empty (skip_white members.1) then Some members.0 else None
 
 -- the dictionary of a whole text: nothing but spaces, or spaces and members
 unfoldable pub dictionary : List ℕ → Option (List (List ℕ × Member))
