@@ -1,5 +1,5 @@
 //! A dictionary (RFC 8941, section 3.2).
-ghost use Rattle.std.specs.Prelude.{◌≡◌, ℕ, List, IfOk, IfSome, IfNone, option_copied};
+ghost use Rattle.std.specs.Prelude.{◌≡◌, ◌≢◌, ◌↔◌, ℕ, List, All, IsNone, IfOk, IfSome, IfNone, option_copied};
 
 use crate::fault::Fault;
 use crate::reading::dictionary;
@@ -28,7 +28,8 @@ impl Dictionary {
 
     /// The last member of a key; None where the key has no member.
     pub fn get(&self, key: &[u8]) -> Option<&Member>
-        ensures { option_copied result ≡ last_of self.now key.now }
+        ensures value { option_copied result ≡ last_of self.now key.now }
+        ensures none { IsNone result ↔ All (λ entry. entry.0 ≢ key.now) self.now }
     {
         last(self.members.as_slice(), key)
     }
@@ -41,7 +42,8 @@ ghost use Rattle.pe_fields.specs.Reading.{dictionary};
 
 /// The last of the members under a key.
 fn last<'a>(entries: &'a [(Bytes, Member)], key: &[u8]) -> Option<&'a Member>
-    ensures { option_copied result ≡ last_of entries.now key.now }
+    ensures value { option_copied result ≡ last_of entries.now key.now }
+    ensures none { IsNone result ↔ All (λ entry. entry.0 ≢ key.now) entries.now }
 {
     let mut found = None;
     for entry in entries {

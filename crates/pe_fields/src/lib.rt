@@ -13,3 +13,6 @@ mod value;
 pub use dictionary::{Dictionary, parse_dictionary};
 pub use laws::{one_reading, reading_is_the_grammar};
 pub use value::{Bare, Item, Items, Member, Param, Params, Value};
+
+#[cfg(test)]
+mod tests;

@@ -1,8 +1,9 @@
-use Rattle.std.proofs.Common.{◌≡◌, ◌+◌, true, false, take, sym, ◌∙◌, refl}
+use Rattle.std.proofs.Common.{◌≡◌, ◌+◌, true, false, take, sym, ap, ◌∙◌, refl, rules}
 use Rattle.std.specs.Option.{option_or}
 use Rattle.std.specs.Prelude.{bytes_eq}
+use Rattle.std.proofs.lemmas.List.{take_all}
 use Rattle.pe_fields.specs.Dictionary.{last_of, member_under}
-use Rattle.pe_fields.proofs.Last.{last_more, last_none}
+use Rattle.pe_fields.proofs.Last.{found_none, last_more, last_none}
 use Rattle.pe_fields.proofs.dictionary.last.Goals as goal
 use Rattle.pe_fields.proofs.dictionary.last.Goals.{then-eq, else-eq}
 
@@ -24,3 +25,6 @@ loop-entry-preserved c =
           let other : bytes_eq entry.0 key ≡ false = sym test ∙ w.if-eq.false in
           rw (w.found-is, step, other) c.loop-entry.invariant
     ]
+
+pub returns-clause-none : goal.returns-clause-none
+returns-clause-none c = found_none c.args.entries.now c.args.key.now c.loop-entry.found (c.loop-entry.invariant ∙ ap (λ x. last_of x c.args.key.now) (take_all c.loop-entry.entry-index c.args.entries.now (search rules)))
