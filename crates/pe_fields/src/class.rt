@@ -1,11 +1,10 @@
 //! Classes of bytes, and the bytes of a class at the front of a text.
-ghost use Rattle.std.specs.Prelude.{◌≡◌, take_while};
+ghost use Rattle.std.specs.Prelude.{◌≡◌, option_copied, take_while};
 ghost use Rattle.std.specs.List.{prefix_len};
 ghost use Rattle.pe_fields.specs.Alphabet.{is_key_start, is_token_start, is_text_byte, is_alpha, is_key_byte, is_token_byte, is_base64_byte};
 ghost use Rattle.pe_fields.specs.Classes.{is_in};
 ghost use Rattle.pe_fields.specs.Grammar.{AllBytes};
 ghost use Rattle.pe_fields.specs.Reading.{behind, drop_while};
-ghost use Rattle.std.specs.Prelude.{option_copied};
 
 /// A class of bytes (RFC 8941, sections 1.2, 3.1.2, 3.3.1, 3.3.4 and 3.3.5).
 #[derive(Clone, Copy)]

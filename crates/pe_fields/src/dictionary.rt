@@ -1,5 +1,9 @@
 //! A dictionary (RFC 8941, section 3.2).
 ghost use Rattle.std.specs.Prelude.{◌≡◌, ◌≢◌, ◌↔◌, ℕ, List, All, IsNone, IfOk, IfSome, IfNone, option_copied};
+ghost use Rattle.pe_fields.specs.declared.value.Member.{Member};
+ghost use Rattle.pe_fields.specs.Dictionary.{last_of};
+ghost use Rattle.pe_fields.specs.Grammar.{IsField};
+ghost use Rattle.pe_fields.specs.Reading.{dictionary};
 
 use crate::fault::Fault;
 use crate::reading::dictionary;
@@ -24,8 +28,6 @@ impl Model for Dictionary {
 }
 
 impl Dictionary {
-    ghost use Rattle.pe_fields.specs.Dictionary.{last_of};
-
     /// The last member of a key; None where the key has no member.
     pub fn get(&self, key: &[u8]) -> Option<&Member>
         ensures value { option_copied result ≡ last_of self.now key.now }
@@ -34,11 +36,6 @@ impl Dictionary {
         last(self.members.as_slice(), key)
     }
 }
-
-ghost use Rattle.pe_fields.specs.declared.value.Member.{Member};
-ghost use Rattle.pe_fields.specs.Dictionary.{last_of};
-ghost use Rattle.pe_fields.specs.Grammar.{IsField};
-ghost use Rattle.pe_fields.specs.Reading.{dictionary};
 
 /// The last of the members under a key.
 fn last<'a>(entries: &'a [(Bytes, Member)], key: &[u8]) -> Option<&'a Member>
