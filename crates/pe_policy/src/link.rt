@@ -1,6 +1,7 @@
 //! The tests between an embedder and its child, and of a document's own header.
-ghost use Rattle.std.specs.Prelude.{◌≡◌, []};
+ghost use Rattle.std.specs.Prelude.{◌≡◌, ◌&&◌, not, is_none, Some, []};
 ghost use Rattle.pe_features.specs.declared.feature.Feature.{Feature};
+ghost use Rattle.pe_origin.specs.Origins.{is_same_origin};
 ghost use Rattle.pe_allowlist.specs.Lists.{lists_of};
 ghost use Rattle.pe_policy.specs.Links as spec;
 ghost use Rattle.pe_policy.specs.Links.{Link};
@@ -32,28 +33,22 @@ fn container_refuses(container: &Container, origin: &Origin, feature: Feature) -
     }
 }
 
-/// Whether the default allowlist is `'self'`.
-fn is_own_origin(default: Option<DefaultList>) -> bool
-    ensures { result ≡ spec.is_own_origin default }
-{
-    match default {
-        Some(DefaultList::OwnOrigin) => true,
-        Some(DefaultList::Any) | None => false,
-    }
-}
-
 /// Whether the container policy lacks the feature, whose default allowlist does not reach the child.
 fn fails_default(
+    default: DefaultList,
     container: &Container,
     parent_origin: &Origin,
     origin: &Origin,
     feature: Feature,
 ) -> bool
-    ensures { result ≡ spec.fails_default feature (link_of 0 parent_origin.now [] []) (link_of 0 origin.now [] container.now) }
+    ensures { result ≡ (is_none (lists_of container.now feature) && spec.is_own_origin (Some default) && not (is_same_origin origin.now parent_origin.now)) }
 {
-    container.get(feature).is_none()
-        && is_own_origin(feature.default_of())
-        && !same_origin(origin, parent_origin)
+    match default {
+        DefaultList::Any => false,
+        DefaultList::OwnOrigin => {
+            container.get(feature).is_none() && !same_origin(origin, parent_origin)
+        }
+    }
 }
 
 /// Which tests fail at a top document.
@@ -82,13 +77,13 @@ pub(crate) fn failing_at_child(
         (link_of 0 parent_origin.now parent.now [])
         (link_of 0 origin.now declared.now container.now) }
 {
-    if feature.default_of().is_none() {
+    let Some(default) = feature.default_of() else {
         return Links::NONE;
-    }
+    };
     Links {
         embedder_header: header_refuses(parent, origin, feature),
         allow: container_refuses(container, origin, feature),
-        by_default: fails_default(container, parent_origin, origin, feature),
+        by_default: fails_default(default, container, parent_origin, origin, feature),
         own_header: header_refuses(declared, origin, feature),
     }
 }
@@ -103,15 +98,14 @@ fn first_rule(
 ) -> Option<LinkRule>
     ensures { result ≡ pair_rule feature (link_of 0 parent_origin.now parent.now []) (link_of 0 origin.now [] container.now) }
 {
-    if feature.default_of().is_none() {
-        None
-    } else if header_refuses(parent, parent_origin, feature) {
+    let default = feature.default_of()?;
+    if header_refuses(parent, parent_origin, feature) {
         Some(LinkRule::EmbedderSelf)
     } else if header_refuses(parent, origin, feature) {
         Some(LinkRule::EmbedderHeader)
     } else if container_refuses(container, origin, feature) {
         Some(LinkRule::Allow)
-    } else if fails_default(container, parent_origin, origin, feature) {
+    } else if fails_default(default, container, parent_origin, origin, feature) {
         Some(LinkRule::Default)
     } else {
         None
