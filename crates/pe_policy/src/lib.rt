@@ -2,5 +2,11 @@
 #![tactic(auto)]
 
 mod law;
+mod link;
+mod policy;
+mod row;
 
 pub use law::denial_is_by_value;
+pub use link::{first_link, own_link};
+pub use policy::Policy;
+pub use row::Links;
