@@ -1,9 +1,8 @@
 -- What a newer step leaves of the older documents.
-use Rattle.std.proofs.Common.{◌≡◌, ◌≢◌, ℕ, suc, ◌+◌, ◌<◌, ◌≤◌, Bool, true, false, ◌==◌, List, [], ◌∷◌, ◌++◌, length, map, Option, Some, None, unwrap_or, option_map, option_and_then, refl, sym, ◌∙◌, ap, arith, cond}
+use Rattle.std.proofs.Common.{◌≡◌, ◌≢◌, ℕ, suc, ◌≤◌, Bool, true, false, ◌==◌, List, [], ◌∷◌, ◌++◌, length, map, Option, Some, None, unwrap_or, option_map, option_and_then, refl, ◌∙◌, ap, arith, cond}
 use Rattle.std.specs.Option.{option_or}
-use Rattle.std.proofs.lemmas.Bool.Decides.{Decides-eqb}
 use Rattle.pe_features.specs.declared.feature.Feature.{Feature}
-use Rattle.pe_allowlist.specs.Lists.{Lists, no_lists}
+use Rattle.pe_allowlist.specs.Lists.{no_lists}
 use Rattle.pe_events.specs.declared.event.Event.{Event}
 use Rattle.pe_events.specs.declared.event.Event.TheVariants as event
 use Rattle.pe_rules.specs.History.{Step, Told, when, newest}
@@ -12,7 +11,7 @@ use Rattle.pe_rules.specs.Making.{Making, making_by, making, along, frame_of}
 use Rattle.pe_rules.specs.Embedders.{chain}
 use Rattle.pe_rules.specs.Origins.{origin_of, sandbox_flag}
 use Rattle.pe_rules.specs.Denials.{declared_lists, container_in, container_lists, link, links, why_denied}
-use Rattle.pe_laws.proofs.Numbers.{not_same, is_same}
+use Rattle.pe_laws.proofs.Numbers.{not_same}
 
 pub along-older : {A : Type 0} (other : A) (rule : Told → Making → Option A → A) (s : Step) (T : Told) (d : ℕ) → d ≤ length T
     → along other rule (s ∷ T) d ≡ along other rule T d
