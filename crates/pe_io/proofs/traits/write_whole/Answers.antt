@@ -1,0 +1,12 @@
+use Rattle.std.proofs.Common.{◌≡◌, ◌++◌, [], List, ℕ, sym, ap, ◌∙◌, subst, append-nil, rules, drop_of_length-le}
+use Rattle.std.specs.Io.KnownBytes.{Appends}
+use Rattle.pe_io.proofs.Bytes.{appends_more}
+use Rattle.pe_io.proofs.traits.write_whole.Goals as goal
+
+pub loop-rest-preserved : goal.loop-rest-preserved
+loop-rest-preserved g c =
+    let (done, split, appended) = c.loop-rest.invariant.split in
+    record {
+      kept = search (rules, c.in_ok-count.ensures.faults);
+      split = appends_more _ _ _ _ done _ c.in_ok-count.count split appended c.in_ok-count.ensures.bytes;
+    }
