@@ -9,3 +9,6 @@ mod traits;
 pub use memory::{MemSink, MemSource, PlainSource};
 pub use standard::{StdSink, StdSource};
 pub use traits::{Failed, Sink, Source, write_whole};
+
+#[cfg(test)]
+mod tests;

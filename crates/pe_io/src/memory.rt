@@ -71,8 +71,7 @@ fn put_front(room: &mut [u8], bytes: &[u8])
 /// at place k says, where 0 counts as 1, and as many as fit where there is no such size.
 #[derive(Drop)]
 pub struct MemSource {
-    bytes: Vec<u8>,
-    at: usize,
+    rest: PlainSource,
     sizes: Vec<usize>,
     fails: Vec<u64>,
     call: u64,
@@ -80,20 +79,17 @@ pub struct MemSource {
 }
 
 impl Model for MemSource {
-    ghost use Rattle.std.specs.Prelude.{◌≤◌, drop, length};
     ghost use Rattle.pe_io.specs.Memory.{Reading};
 
     ghost Value = { Reading };
 
     ghost view = { λ s. record {
-      rest = drop s.at s.bytes.items;
+      rest = s.rest;
       sizes = s.sizes.items;
       fails = s.fails.items;
       call = s.call;
       faults = s.faults;
     } };
-
-    ghost invariant = { λ s. s.at ≤ length s.bytes.items };
 }
 
 impl MemSource {
@@ -108,8 +104,7 @@ impl MemSource {
         } }
     {
         MemSource {
-            bytes,
-            at: 0,
+            rest: PlainSource::new(bytes),
             sizes,
             fails,
             call: 0,
@@ -151,12 +146,8 @@ impl Source for MemSource {
             self.faults = self.faults.saturating_add(1);
             return Err(Failed);
         }
-        let most = room.len().min(self.bytes.len() - self.at);
-        let count = sized_count(&self.sizes, call, most);
-        let end = self.at + count;
-        put_front(room, &self.bytes[self.at..end]);
-        self.at = end;
-        Ok(count)
+        let most = sized_count(&self.sizes, call, room.len());
+        self.rest.read(&mut room[..most])
     }
 }
 

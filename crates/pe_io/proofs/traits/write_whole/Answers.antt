@@ -1,5 +1,4 @@
-use Rattle.std.proofs.Common.{◌≡◌, ◌++◌, [], List, ℕ, sym, ap, ◌∙◌, subst, append-nil, rules, drop_of_length-le}
-use Rattle.std.specs.Io.KnownBytes.{Appends}
+use Rattle.std.proofs.Common.{rules}
 use Rattle.pe_io.proofs.Bytes.{appends_more}
 use Rattle.pe_io.proofs.traits.write_whole.Goals as goal
 
