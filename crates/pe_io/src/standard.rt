@@ -1,5 +1,5 @@
 //! The runtime's readers and writers as a source and a sink.
-ghost use Rattle.std.specs.Prelude.{◌≡◌, None, OnErr, length};
+ghost use Rattle.std.specs.Prelude.{◌≡◌, ◌<◌, None, OnErr, length};
 ghost use Rattle.std.specs.Io.{ReadsAtMost, WritesAtMost};
 ghost use Rattle.std.specs.Io.KnownBytes.{ReadConsumes, WriteAppends};
 ghost use Rattle.pe_io.specs.Faults.{CountsFaults, next_u64};
@@ -44,6 +44,7 @@ impl<R: Read + Drop> Source for StdSource<R> {
     ghost faults = { λ s. s };
 
     fn read(&mut self, room: &mut [u8]) -> Result<usize, Failed>
+        requires { 0 < length room.old }
         ensures bound { ReadsAtMost result room.new }
         ensures faults { CountsFaults self.old self.new result }
         ensures counted { OnErr result (self.new ≡ next_u64 self.old) }
