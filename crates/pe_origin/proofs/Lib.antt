@@ -1,0 +1,4 @@
+pub mod Hosts
+pub mod SameOrigin
+pub mod OnLiterals
+pub mod Rows

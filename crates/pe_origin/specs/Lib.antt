@@ -1,0 +1,4 @@
+pub mod Schemes
+pub mod Places
+pub mod Origins
+pub mod Trust

@@ -1,0 +1,15 @@
+//! Origins, and what the engine knows of a URL.
+#![tactic(auto)]
+
+mod origin;
+mod place;
+mod scheme;
+mod trust;
+
+pub use origin::{Origin, Tuple, origin_text, same_origin};
+pub use place::{Place, PlaceFault, PlaceKind, read_place};
+pub use scheme::{HostForm, Scheme};
+pub use trust::trustworthy;
+
+#[cfg(test)]
+mod tests;

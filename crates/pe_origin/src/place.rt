@@ -1,0 +1,117 @@
+//! What the engine knows of a URL.
+ghost use Rattle.std.specs.Prelude.{◌≡◌, Some, None, IfOk, IfErr};
+ghost use Rattle.url.specs.Parts.{host_or_empty};
+ghost use Rattle.pe_origin.specs.Places as spec;
+ghost use Rattle.pe_origin.specs.Places.{place_at};
+ghost use Rattle.pe_origin.specs.declared.place.PlaceFault.TheVariants.{NotAUrl};
+
+use crate::origin::Tuple;
+use crate::scheme::{HostForm, Scheme};
+use pe_base::Bytes;
+use std::alloc::{AllocError, Global};
+use thiserror::Error;
+use url::{Host, ParseError, Url};
+
+/// What a URL names.
+#[derive(Clone, Copy, Debug, PartialEq, Eq, PartialOrd, Ord, Hash)]
+pub enum PlaceKind {
+    /// A resource under a tuple origin: the scheme is http, https, ws, wss or ftp.
+    Net,
+    /// The URL is about:blank, with any query and fragment.
+    Blank,
+    /// The scheme is `data`.
+    Inline,
+    /// Any other URL.
+    Other,
+}
+
+/// What the engine knows of a URL.
+#[derive(Debug, Drop, PartialEq, Eq, PartialOrd, Ord, Hash)]
+pub struct Place {
+    /// The kind.
+    pub kind: PlaceKind,
+    /// The tuple origin. A place that was read has one exactly where its kind is `Net`.
+    pub tuple: Option<Tuple>,
+}
+
+/// Why a text was read as no place.
+#[derive(Clone, Copy, Debug, PartialEq, Eq, Error)]
+pub enum PlaceFault {
+    /// The text is not UTF-8, or the URL parser refuses it.
+    #[error("the text is no URL")]
+    NotAUrl,
+    /// Memory wants, or the URL would pass 4 GB.
+    #[error("out of memory")]
+    Memory,
+}
+
+fn form_of(url: &Url) -> HostForm
+    ensures { result ≡ spec.form_of (host_or_empty url.now) }
+{
+    match url.host() {
+        Some(Host::Ipv4(_)) => HostForm::V4,
+        Some(Host::Ipv6(_)) => HostForm::V6,
+        _ => HostForm::Domain,
+    }
+}
+
+fn kind_without_tuple(url: &Url) -> PlaceKind
+    ensures { result ≡ spec.kind_without_tuple url.now }
+{
+    if url.scheme() == "about" && url.path() == "blank" {
+        PlaceKind::Blank
+    } else if url.scheme() == "data" {
+        PlaceKind::Inline
+    } else {
+        PlaceKind::Other
+    }
+}
+
+#[tactic(auto, using(crate::proofs::Hosts::host_shown), unfolding(crate::specs::Places::tuple_of))]
+fn tuple_of(alloc: Global, scheme: Scheme, url: &Url) -> Result<Tuple, AllocError>
+    ensures { IfOk result (λ tuple. tuple ≡ spec.tuple_of scheme url.now) }
+{
+    let host = url.host_str().unwrap_or("").as_bytes().to_vec(alloc)?;
+    Ok(Tuple {
+        scheme,
+        host: Bytes::of(host),
+        form: form_of(url),
+        port: url.port().unwrap_or(scheme.default_port()),
+    })
+}
+
+#[tactic(auto, unfolding(crate::specs::Places::place_of))]
+fn place_of(alloc: Global, url: &Url) -> Result<Place, AllocError>
+    ensures { IfOk result (λ place. place ≡ spec.place_of url.now) }
+{
+    match Scheme::named(url.scheme()) {
+        Some(scheme) => Ok(Place {
+            kind: PlaceKind::Net,
+            tuple: Some(tuple_of(alloc, scheme, url)?),
+        }),
+        None => Ok(Place {
+            kind: kind_without_tuple(url),
+            tuple: None,
+        }),
+    }
+}
+
+/// Reads a URL by the URL Standard's parser, without a base URL. `NotAUrl` comes exactly where the
+/// text is not UTF-8 or the parser refuses it, as long as there is room.
+#[tactic(auto, using(crate::proofs::Hosts::utf8_fails), unfolding(crate::specs::Places::place_at))]
+pub fn read_place(alloc: Global, text: &[u8]) -> Result<Place, PlaceFault>
+    ensures read { IfOk result (λ place. place_at text.now ≡ Some place) }
+    ensures not_a_url { IfErr result (λ fault. fault ≡ NotAUrl → place_at text.now ≡ None) }
+{
+    let Ok(text) = str::from_utf8(text) else {
+        return Err(PlaceFault::NotAUrl);
+    };
+    match Url::parse(alloc, text) {
+        Ok(url) => match place_of(alloc, &url) {
+            Ok(place) => Ok(place),
+            Err(_) => Err(PlaceFault::Memory),
+        },
+        Err(ParseError::OutOfMemory | ParseError::Overflow) => Err(PlaceFault::Memory),
+        Err(_) => Err(PlaceFault::NotAUrl),
+    }
+}
