@@ -1,0 +1,5 @@
+mod CallRows
+mod CapabilityRows
+mod FeatureRows
+mod GateRows
+mod Search

@@ -1,0 +1,12 @@
+//! The tables of policy-controlled and powerful features, of the calls that they gate, and of the
+//! capabilities that a message may delegate.
+#![tactic(auto)]
+
+mod call;
+mod capability;
+mod feature;
+mod named;
+
+pub use call::{Call, Gate, Need};
+pub use capability::Capability;
+pub use feature::{DefaultList, Feature, KeyKind};
