@@ -1,5 +1,5 @@
 -- Of each pair, one prompt of a page is pending.
-use Rattle.std.proofs.Common.{◌≡◌, ◌≢◌, ◌⊎◌, inl, inr, ℕ, suc, ◌+◌, ◌≤◌, Bool, true, false, not, ◌&&◌, ◌||◌, ◌==◌, List, [], ◌∷◌, ◌++◌, length, filter, Option, Some, None, is_some, unwrap_or, option_map, option_and_then, option_to_list, refl, sym, ◌∙◌, ap, arith}
+use Rattle.std.proofs.Common.{◌≡◌, ◌≢◌, ◌⊎◌, inl, inr, ℕ, suc, ◌+◌, ◌≤◌, Bool, true, false, not, ◌&&◌, ◌||◌, ◌==◌, List, [], ◌∷◌, ◌++◌, length, filter, Option, Some, None, is_some, unwrap_or, option_map, option_and_then, option_to_list, refl, sym, ◌∙◌, ap, arith, length-append}
 use Rattle.std.specs.Option.{option_or}
 use Rattle.std.specs.List.{list_any}
 use Rattle.std.proofs.lemmas.List.Folds.{list_any-append}
@@ -323,3 +323,34 @@ one-per-pair duration (e ∷ H) =
     let T : Told = told duration H in
     let s : Step = record { time = e.time; event = e.event; item = item_of duration T e.time e.event } in
     one-step s T (λ p. told-asks duration T e.time e.event p) (told-makes duration T e.time e.event) (one-per-pair duration H)
+
+-- ---- a prompt that is no longer pending
+
+pub settled-stays : (s : Step) (T : Told) (k : ℕ) → is_settled T k ≡ true → is_settled (s ∷ T) k ≡ true
+settled-stays s T k h = by_now (is_settled (s ∷ T) k) refl
+  where
+    by_now : (b : Bool) → is_settled (s ∷ T) k ≡ b → is_settled (s ∷ T) k ≡ true
+    by_now true e = e
+    by_now false e = let no : is_settled T k ≡ false = settled-older s T k e in cc
+
+told-length : (duration : ℕ) (H : History) → length (told duration H) ≡ length H
+unfolding told
+told-length duration [] = refl
+told-length duration (e ∷ H) = ap suc (told-length duration H)
+
+gone-step : (s : Step) (T : Told) (k : ℕ) → ((p : ℕ) → Asked s T p) → k ≤ length T → is_pending T k ≡ false → is_pending (s ∷ T) k ≡ false
+gone-step s T k asked below gone = by_now (is_pending (s ∷ T) k) refl
+  where
+    by_now : (b : Bool) → is_pending (s ∷ T) k ≡ b → is_pending (s ∷ T) k ≡ false
+    by_now false e = e
+    by_now true e = let still : is_pending T k ≡ true = was-pending s T k asked below e in cc
+
+pub gone-prompt : (duration : ℕ) (newer H : History) (k : ℕ) → k ≤ length H → is_pending (told duration H) k ≡ false → is_pending (told duration (newer ++ H)) k ≡ false
+unfolding told
+gone-prompt duration [] H k h gone = gone
+gone-prompt duration (e ∷ newer) H k h gone =
+    let T : Told = told duration (newer ++ H) in
+    let s : Step = record { time = e.time; event = e.event; item = item_of duration T e.time e.event } in
+    let all : length T ≡ length (newer ++ H) = told-length duration (newer ++ H) in
+    let below : k ≤ length T = omega (arith, all, length-append newer H) in
+    gone-step s T k (λ p. told-asks duration T e.time e.event p) below (gone-prompt duration newer H k h gone)
