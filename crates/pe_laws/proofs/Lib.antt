@@ -6,3 +6,5 @@ pub mod Pairs
 pub mod Lapses
 pub mod Enabled
 pub mod Lists
+pub mod PromptsTold
+pub mod PendingPrompts
