@@ -1,8 +1,11 @@
 //! What no contract says: that there is memory for a copy, and that the comparisons serve at run time.
+ghost use Rattle.std.specs.Prelude.{◌≡◌, ◌<◌};
+
 use crate::{Bytes, DocNo, FrameNo, Steps};
 use std::cmp::Ordering;
 use std::collections::HashMap;
-use std::sync::ledger::{Blank, Brand, Ledger};
+use std::marker::Brand;
+use std::sync::ledger::{Blank, Ledger};
 use std::test::Fail;
 
 #[test]
@@ -30,4 +33,20 @@ fn bytes_are_keys(rt: HostRuntime) -> Result<(), Fail> {
 fn numbers_compare(rt: HostRuntime) {
     assert!(rt; DocNo::of(1) < DocNo::of(2));
     assert_eq!(rt; FrameNo::of(1_000_000).get(), 1_000_000);
+}
+
+/// Two counted steps; that there are two is proved.
+fn count_two<L: Ledger>(blank: Blank)
+    requires name { blank.name ≡ L.name }
+    requires parts { blank.parts ≡ L.parts }
+    requires some { 0 < blank.parts }
+{
+    let mut steps: Steps<L> = Steps::start(blank);
+    steps.tick();
+    steps.tick();
+}
+
+#[test]
+fn steps_are_counted() {
+    count_two::<Brand>(Blank::new(1));
 }
