@@ -1,7 +1,7 @@
 -- The lines that are written: answers, refusals and changes.
 -- The texts are this project's own format.
 -- Each line ends with a line feed.
-use Rattle.std.specs.Prelude.{ℕ, Bool, true, false, List, [], ◌∷◌, ◌++◌, map, codes, decimal, zip, if◌then◌else◌}
+use Rattle.std.specs.Prelude.{ℕ, Bool, true, false, List, [], ◌∷◌, ◌++◌, map, codes, decimal, zip}
 use Rattle.std.specs.List.{concat}
 use Rattle.pe_base.specs.declared.denial.Denial.{Denial}
 use Rattle.pe_base.specs.declared.denial.LinkRule.{LinkRule}

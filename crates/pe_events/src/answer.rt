@@ -14,33 +14,59 @@ pub enum Answer {
         origin: Origin,
     },
     /// A frame got a new document.
-    DocMade { doc: DocNo, origin: Origin },
+    DocMade {
+        doc: DocNo,
+        origin: Origin,
+    },
     /// It is done.
     Done,
     /// An input activated so many documents.
-    Activated { count: u32 },
+    Activated {
+        count: u32,
+    },
     /// An input of this kind activates nothing.
     Ignored,
     /// Whether the document has sticky and transient activation.
-    Activity { sticky: bool, transient: bool },
+    Activity {
+        sticky: bool,
+        transient: bool,
+    },
     /// It is allowed.
     Allowed,
     /// It is denied.
-    Denied { reason: Reason },
+    Denied {
+        reason: Reason,
+    },
     /// For each feature, in the order of the table, whether it is policy-controlled and allowed.
-    Names { allowed: [bool; 16] },
+    Names {
+        allowed: [bool; 16],
+    },
     /// A permission status was made, and shows this state.
-    StatusMade { status: StatusNo, state: State },
+    StatusMade {
+        status: StatusNo,
+        state: State,
+    },
     /// A request found this state, granted or denied.
-    Stated { state: State },
+    Stated {
+        state: State,
+    },
     /// A request made a prompt.
-    PromptMade { prompt: PromptNo },
+    PromptMade {
+        prompt: PromptNo,
+    },
     /// A request joined a prompt.
-    PromptJoined { prompt: PromptNo },
+    PromptJoined {
+        prompt: PromptNo,
+    },
     /// A prompt was settled, with so many requests of current documents.
-    Settled { count: u32, state: State },
+    Settled {
+        count: u32,
+        state: State,
+    },
     /// A message was posted.
-    MessageMade { message: MessageNo },
+    MessageMade {
+        message: MessageNo,
+    },
     /// A message was delivered.
     Delivered,
     /// Its target document is not current.
@@ -48,7 +74,9 @@ pub enum Answer {
     /// Its target document is of another origin than the message names.
     DroppedOther,
     /// The line is refused.
-    Refused { cause: Cause },
+    Refused {
+        cause: Cause,
+    },
 }
 
 /// A permission status has another state from this time on.

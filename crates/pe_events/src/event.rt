@@ -72,23 +72,46 @@ pub enum Event<'a> {
         value: Option<Text<'a>>,
     },
     /// A frame is closed, with all below it.
-    Close { frame: u32 },
+    Close {
+        frame: u32,
+    },
     /// The user gives an input in a frame.
-    Input { frame: u32, kind: InputKind },
+    Input {
+        frame: u32,
+        kind: InputKind,
+    },
     /// The activation of a frame's document is asked for.
-    Ask { frame: u32 },
+    Ask {
+        frame: u32,
+    },
     /// It is asked whether a frame's document is allowed to use a feature.
-    PolicyOf { frame: u32, feature: Text<'a> },
+    PolicyOf {
+        frame: u32,
+        feature: Text<'a>,
+    },
     /// The features that a frame's document is allowed to use are asked for.
-    Features { frame: u32 },
+    Features {
+        frame: u32,
+    },
     /// A frame's document makes a call.
-    UseCall { frame: u32, call: Text<'a> },
+    UseCall {
+        frame: u32,
+        call: Text<'a>,
+    },
     /// A frame's document queries a permission, which makes a status object.
-    Query { frame: u32, feature: Text<'a> },
+    Query {
+        frame: u32,
+        feature: Text<'a>,
+    },
     /// A status object is dropped.
-    DropStatus { status: u32 },
+    DropStatus {
+        status: u32,
+    },
     /// A frame's document requests a permission.
-    Request { frame: u32, feature: Text<'a> },
+    Request {
+        frame: u32,
+        feature: Text<'a>,
+    },
     /// The user answers the shown prompt.
     Answered {
         prompt: u32,
@@ -112,7 +135,9 @@ pub enum Event<'a> {
         capability: Text<'a>,
     },
     /// A posted message is delivered.
-    Deliver { message: u32 },
+    Deliver {
+        message: u32,
+    },
     /// Time goes on.
     Tick,
 }

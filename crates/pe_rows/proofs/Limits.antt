@@ -1,15 +1,13 @@
 -- Limits of a page, each as the reply to one more event after a literal history.
 -- Whole scripts of 257 lines and more are too long to be computed in one theorem.
 -- What was told of the older events is written as it is told.
-use Rattle.std.proofs.Common.{◌≡◌, ℕ, List, [], ◌∷◌, ◌++◌, Some, None, true, false, codes, replicate, refl}
-use Rattle.pe_features.specs.declared.feature.Feature.TheVariants as feature
+use Rattle.std.proofs.Common.{◌≡◌, [], ◌∷◌, ◌++◌, Some, None, false, codes, replicate, refl}
 use Rattle.pe_base.specs.declared.state.State.TheVariants as state
 use Rattle.pe_events.specs.declared.answer.Answer.TheVariants as answer
 use Rattle.pe_events.specs.declared.cause.Cause.TheVariants as cause
 use Rattle.pe_events.specs.declared.event.Event.{Event}
 use Rattle.pe_events.specs.declared.event.Event.TheVariants as event
 use Rattle.pe_rules.specs.History.{Item, Said, Step, Told}
-use Rattle.pe_rules.specs.Replies.{reply_in}
 use Rattle.pe_rules.specs.Causes.{cause_of}
 use Rattle.pe_rows.proofs.OnLiterals.{output_on_literals}
 

@@ -11,7 +11,7 @@ use Rattle.pe_events.specs.declared.event.Event.{Event}
 use Rattle.pe_events.specs.declared.event.Event.TheVariants as event
 use Rattle.pe_events.specs.declared.reason.Verdict.TheVariants as verdict
 use Rattle.pe_events.specs.declared.reason.Via.TheVariants as via
-use Rattle.pe_rules.specs.History.{Item, Said, Judged, Step, Told, when, newest}
+use Rattle.pe_rules.specs.History.{Item, Judged, Step, Told, when, newest}
 use Rattle.pe_rules.specs.Numbering.{documents_made, makes_message}
 use Rattle.pe_rules.specs.Embedders.{chain, page, page_of_frame}
 use Rattle.pe_rules.specs.Current.{is_current, document_in}

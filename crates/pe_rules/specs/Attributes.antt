@@ -1,12 +1,12 @@
 -- The attributes of a frame that are in force.
 -- HTML Standard, section 4.8.5 "The iframe element": `src`, `srcdoc`, `allow`, `sandbox`, `allowfullscreen`.
 -- They act on the next document that is made in the frame, and never on one that is there.
-use Rattle.std.specs.Prelude.{ℕ, Bool, true, false, ◌&&◌, ◌==◌, List, [], ◌∷◌, length, Option, Some, None, is_some, unwrap_or}
+use Rattle.std.specs.Prelude.{ℕ, Bool, true, false, ◌&&◌, ◌==◌, List, [], ◌∷◌, length, Option, None, is_some, unwrap_or}
 use Rattle.pe_events.specs.declared.event.AttrName.{AttrName}
 use Rattle.pe_events.specs.declared.event.AttrName.TheVariants.{Src, Srcdoc, Allow, Sandbox, Fullscreen}
 use Rattle.pe_events.specs.declared.event.Event.{Event}
 use Rattle.pe_events.specs.declared.event.Event.TheVariants as event
-use Rattle.pe_rules.specs.History.{Step, Told, when, newest}
+use Rattle.pe_rules.specs.History.{Told, when, newest}
 
 -- the values of a frame's attributes, and which of the two that have none stand
 pub record Attributes : Type 0 where

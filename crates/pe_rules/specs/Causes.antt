@@ -18,7 +18,7 @@ use Rattle.pe_events.specs.declared.cause.Cause.TheVariants as cause
 use Rattle.pe_events.specs.declared.event.AttrName.TheVariants as attribute
 use Rattle.pe_events.specs.declared.event.Event.{Event}
 use Rattle.pe_events.specs.declared.event.Event.TheVariants as event
-use Rattle.pe_rules.specs.History.{Step, Told, when, newest, each, clock}
+use Rattle.pe_rules.specs.History.{Told, when, newest, each, clock}
 use Rattle.pe_rules.specs.Numbering.{is_frame, is_status, is_prompt, is_message, frames_made, parent_frame}
 use Rattle.pe_rules.specs.Embedders.{page, page_of_frame, depth}
 use Rattle.pe_rules.specs.Current.{document_in, is_live}

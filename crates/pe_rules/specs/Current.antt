@@ -1,7 +1,7 @@
 -- Which documents are current, and which frames are live.
 -- HTML Standard, "fully active"; without session history a document is current exactly where it is fully active.
 -- A document stays current until its frame, or one above it, gets another document or is closed.
-use Rattle.std.specs.Prelude.{ℕ, Bool, true, false, not, ◌&&◌, ◌==◌, List, map, Option, is_some, option_and_then}
+use Rattle.std.specs.Prelude.{ℕ, Bool, false, not, ◌&&◌, ◌==◌, List, map, Option, is_some, option_and_then}
 use Rattle.std.specs.List.{list_all, list_any}
 use Rattle.pe_events.specs.declared.event.Event.{Event}
 use Rattle.pe_events.specs.declared.event.Event.TheVariants as event

@@ -1,7 +1,7 @@
 -- Delegating messages, and the capabilities that documents hold by them.
 -- Capability Delegation, "delegating capability", in outline.
 -- The tests and their order, and that a capability lasts for the duration until a use spends it, are this project's own.
-use Rattle.std.specs.Prelude.{ℕ, ◌+◌, Bool, true, false, not, ◌&&◌, ◌==◌, nat_lt, List, ◌∷◌, length, filter, Option, Some, None, is_some, unwrap_or, option_map, option_and_then}
+use Rattle.std.specs.Prelude.{ℕ, ◌+◌, Bool, true, false, not, ◌&&◌, ◌==◌, nat_lt, List, ◌∷◌, length, filter, Option, None, is_some, unwrap_or, option_map, option_and_then}
 use Rattle.pe_features.specs.declared.capability.Capability.{Capability}
 use Rattle.pe_features.specs.Calls.{call_named, gate_of}
 use Rattle.pe_features.specs.Capabilities.{capability_named, feature_of}
@@ -12,7 +12,7 @@ use Rattle.pe_events.specs.declared.event.Event.{Event}
 use Rattle.pe_events.specs.declared.event.Event.TheVariants as event
 use Rattle.pe_events.specs.declared.reason.Verdict.TheVariants as verdict
 use Rattle.pe_events.specs.declared.reason.Via.TheVariants as via
-use Rattle.pe_rules.specs.History.{Item, Said, Judged, Step, Told, when, newest, each, step_at}
+use Rattle.pe_rules.specs.History.{Item, Said, Judged, Told, when, newest, step_at}
 use Rattle.pe_rules.specs.Numbering.{made, makes_message}
 use Rattle.pe_rules.specs.Making.{frame_of}
 use Rattle.pe_rules.specs.Embedders.{page_of_frame}

@@ -1,10 +1,10 @@
 -- The making of a document: its frame, URL and header, its embedder, and the attributes in force.
 -- HTML Standard, "container document", "navigate"; the attributes are those of its "iframe" element.
 -- A frame and its first document are made by one event, which is this project's own.
-use Rattle.std.specs.Prelude.{ℕ, ◌+◌, Bool, true, false, ◌==◌, List, [], ◌∷◌, length, codes, Option, Some, None, unwrap_or, option_map, option_and_then, if◌then◌else◌}
+use Rattle.std.specs.Prelude.{ℕ, ◌+◌, Bool, false, ◌==◌, List, [], ◌∷◌, length, codes, Option, Some, None, unwrap_or, option_map, option_and_then, if◌then◌else◌}
 use Rattle.pe_events.specs.declared.event.Event.{Event}
 use Rattle.pe_events.specs.declared.event.Event.TheVariants as event
-use Rattle.pe_rules.specs.History.{Step, Told, newest}
+use Rattle.pe_rules.specs.History.{Told, newest}
 use Rattle.pe_rules.specs.Numbering.{last_document, parent_frame}
 use Rattle.pe_rules.specs.Attributes.{Attributes, no_attributes, attributes_of}
 

@@ -1,11 +1,11 @@
 -- Which position makes a frame, a document, a permission status, a prompt or a message.
 -- The numbering is this project's own: an object has the position of the event that made it.
 -- A number is unknown where its position makes no such thing or is not in the history.
-use Rattle.std.specs.Prelude.{ℕ, Bool, true, false, ◌&&◌, ◌==◌, List, ◌∷◌, length, Option, Some, None, is_some, unwrap_or, option_map, option_and_then, option_to_list, if◌then◌else◌}
+use Rattle.std.specs.Prelude.{ℕ, Bool, true, false, ◌&&◌, ◌==◌, List, ◌∷◌, length, Option, Some, None, is_some, option_and_then, option_to_list, if◌then◌else◌}
 use Rattle.pe_events.specs.declared.answer.Answer.TheVariants as answer
 use Rattle.pe_events.specs.declared.event.Event.{Event}
 use Rattle.pe_events.specs.declared.event.Event.TheVariants as event
-use Rattle.pe_rules.specs.History.{Item, Said, Judged, Step, Told, when, newest, each, step_at}
+use Rattle.pe_rules.specs.History.{Item, Said, Step, Told, when, newest, each}
 
 -- the event makes a frame: it opens a page or embeds a frame
 abbrev pub makes_frame : Event → Bool

@@ -10,7 +10,7 @@ use Rattle.pe_origin.specs.declared.origin.Origin.{Origin}
 use Rattle.pe_origin.specs.declared.origin.Origin.TheVariants as origin
 use Rattle.pe_origin.specs.declared.place.Place.{Place}
 use Rattle.pe_origin.specs.declared.place.PlaceKind.{PlaceKind}
-use Rattle.pe_origin.specs.declared.place.PlaceKind.TheVariants.{Net, Blank, Inline, Other}
+use Rattle.pe_origin.specs.declared.place.PlaceKind.TheVariants.{Blank, Other}
 use Rattle.pe_origin.specs.Places.{place_at}
 use Rattle.pe_origin.specs.Trust.{is_trustworthy}
 use Rattle.pe_rules.specs.History.{Told}

@@ -1,11 +1,11 @@
 -- Prompts: their requests, which are settled, which are pending, and the one that is shown.
 -- Permissions, "prompt the user to choose"; the queue of prompts is this project's own.
 -- Requests of one pair in one page join one prompt.
-use Rattle.std.specs.Prelude.{ℕ, Bool, true, false, not, ◌&&◌, ◌==◌, List, [], ◌∷◌, ◌++◌, length, filter, Option, Some, None, is_some, unwrap_or, option_map, option_and_then, option_to_list}
+use Rattle.std.specs.Prelude.{ℕ, Bool, false, not, ◌&&◌, ◌==◌, List, [], ◌∷◌, length, filter, Option, Some, None, is_some, unwrap_or, option_map, option_and_then, option_to_list}
 use Rattle.pe_events.specs.declared.answer.Answer.TheVariants as answer
 use Rattle.pe_events.specs.declared.event.Event.{Event}
 use Rattle.pe_events.specs.declared.event.Event.TheVariants as event
-use Rattle.pe_rules.specs.History.{Item, Said, Judged, Step, Told, when, newest, each}
+use Rattle.pe_rules.specs.History.{Item, Said, Step, Told, when, newest, each}
 use Rattle.pe_rules.specs.Numbering.{made, makes_prompt}
 use Rattle.pe_rules.specs.Current.{is_current, document_in}
 use Rattle.pe_rules.specs.Settings.{Pair, is_same_pair, prompt_pair, prompt_page}

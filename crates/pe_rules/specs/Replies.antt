@@ -23,7 +23,7 @@ use Rattle.pe_events.specs.declared.reason.Reason.TheVariants as reason
 use Rattle.pe_events.specs.declared.reason.Verdict.{Verdict}
 use Rattle.pe_events.specs.declared.reason.Verdict.TheVariants as verdict
 use Rattle.pe_events.specs.Timed.{Timed}
-use Rattle.pe_rules.specs.History.{Item, Said, Judged, Step, Told, History, when}
+use Rattle.pe_rules.specs.History.{Item, Said, Judged, Told, History, when}
 use Rattle.pe_rules.specs.Current.{is_current, document_in}
 use Rattle.pe_rules.specs.Origins.{origin_of}
 use Rattle.pe_rules.specs.Denials.{why_denied, is_allowed}

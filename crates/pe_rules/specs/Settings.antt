@@ -1,7 +1,7 @@
 -- Permission keys, the settings of a pair of feature and key, how long they hold, and what is stored.
 -- Permissions, "permission store", "permission store entry", "permission key", "lifetime".
 -- Lives and the key of `storage-access` are this project's own.
-use Rattle.std.specs.Prelude.{ℕ, ◌+◌, Bool, true, false, ◌&&◌, nat_lt, List, ◌∷◌, length, Option, Some, None, is_some, option_map, option_and_then}
+use Rattle.std.specs.Prelude.{ℕ, ◌+◌, Bool, true, false, ◌&&◌, nat_lt, List, Option, Some, None, is_some, option_map, option_and_then}
 use Rattle.pe_base.specs.declared.state.State.{State}
 use Rattle.pe_base.specs.declared.state.State.TheVariants as state
 use Rattle.pe_features.specs.declared.feature.Feature.{Feature}
@@ -21,7 +21,7 @@ use Rattle.pe_events.specs.declared.event.EventLife.{EventLife}
 use Rattle.pe_events.specs.declared.event.EventLife.TheVariants as given
 use Rattle.pe_events.specs.declared.event.Outcome.{Outcome}
 use Rattle.pe_events.specs.declared.event.Outcome.TheVariants as outcome
-use Rattle.pe_rules.specs.History.{Step, Told, when, newest, step_at, clock}
+use Rattle.pe_rules.specs.History.{Told, when, newest, step_at, clock}
 use Rattle.pe_rules.specs.Embedders.{top_document, page}
 use Rattle.pe_rules.specs.Current.{is_current, document_in}
 use Rattle.pe_rules.specs.Origins.{origin_of, place_or_none}

@@ -1,12 +1,12 @@
 -- Permission statuses, and which of them are live.
 -- Permissions, the interface PermissionStatus; that the script drops them is this project's own.
 -- A status is live until it is dropped or its document is no longer current.
-use Rattle.std.specs.Prelude.{ℕ, Bool, true, false, ◌&&◌, ◌==◌, List, ◌∷◌, length, filter, Option, None, is_none, option_map, option_and_then, option_to_list}
+use Rattle.std.specs.Prelude.{ℕ, Bool, false, ◌&&◌, ◌==◌, List, ◌∷◌, length, filter, Option, None, is_none, option_map, option_and_then, option_to_list}
 use Rattle.pe_features.specs.declared.feature.Feature.{Feature}
 use Rattle.pe_features.specs.Features.{feature_named}
 use Rattle.pe_events.specs.declared.event.Event.{Event}
 use Rattle.pe_events.specs.declared.event.Event.TheVariants as event
-use Rattle.pe_rules.specs.History.{Step, Told, when, newest, each}
+use Rattle.pe_rules.specs.History.{Told, when, newest, each}
 use Rattle.pe_rules.specs.Current.{is_current, document_in}
 
 -- a permission status: its number, its document and its feature

@@ -1,7 +1,7 @@
 -- The keywords of a script line: kinds of input, states, attributes.
 -- The script is this project's own format.
 -- Each is a bare word.
-use Rattle.std.specs.Prelude.{ℕ, List, [], ◌∷◌, codes, bytes_eq, find, Option, Some, None, option_map, option_and_then, Bool, false, unwrap_or}
+use Rattle.std.specs.Prelude.{ℕ, List, [], ◌∷◌, codes, bytes_eq, find, Option, option_map, option_and_then, Bool, false, unwrap_or}
 use Rattle.pe_base.specs.declared.input.InputKind.{InputKind}
 use Rattle.pe_base.specs.declared.input.InputKind.TheVariants as kind
 use Rattle.pe_base.specs.declared.state.State.{State}

@@ -1,7 +1,7 @@
 -- What a line of a script says.
 -- The script is this project's own format.
 -- Of a line that is not too long: it may have a bad byte, or not be in the grammar.
-use Rattle.std.specs.Prelude.{ℕ, ◌||◌, List, [], ◌∷◌, Option, Some, None, option_map, option_and_then, unwrap_or, if◌then◌else◌}
+use Rattle.std.specs.Prelude.{ℕ, ◌||◌, List, [], ◌∷◌, Option, None, option_map, option_and_then, unwrap_or, if◌then◌else◌}
 use Rattle.pe_lines.specs.declared.word.Word.{Word}
 use Rattle.pe_lines.specs.Words.{has_bad_byte, is_blank_line, is_comment, words_of}
 use Rattle.pe_events.specs.declared.cause.Cause.{Cause}

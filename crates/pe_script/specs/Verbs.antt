@@ -1,8 +1,7 @@
 -- The verbs of a script line: what the words behind a verb say.
 -- The script is this project's own format.
 -- Texts are as in the line, with escapes undone; a text may be bare or quoted, all other words are bare.
-use Rattle.std.specs.Prelude.{ℕ, Bool, true, false, not, ◌&&◌, ◌||◌, List, [], ◌∷◌, ◌++◌, codes, bytes_eq, find, fold, Option, Some, None, is_some, is_none, option_map, option_and_then, if◌then◌else◌}
-use Rattle.pe_base.specs.declared.state.State.{State}
+use Rattle.std.specs.Prelude.{ℕ, Bool, true, false, not, ◌&&◌, ◌||◌, List, [], ◌∷◌, ◌++◌, codes, fold, Option, Some, None, is_some, is_none, option_map, option_and_then, if◌then◌else◌}
 use Rattle.pe_lines.specs.declared.word.Word.{Word}
 use Rattle.pe_events.specs.declared.event.Event.{Event}
 use Rattle.pe_events.specs.declared.event.Event.TheVariants as event
@@ -11,7 +10,7 @@ use Rattle.pe_events.specs.declared.event.EventLife.TheVariants as life
 use Rattle.pe_events.specs.declared.event.Outcome.{Outcome}
 use Rattle.pe_events.specs.declared.event.Outcome.TheVariants as outcome
 use Rattle.pe_script.specs.Numerals.{bare, span_of, object}
-use Rattle.pe_script.specs.Names.{named_in, is_keyword, input_kinds, states, attribute_names, keyword_in}
+use Rattle.pe_script.specs.Names.{is_keyword, input_kinds, states, attribute_names, keyword_in}
 
 -- ---- words that several verbs have
 
