@@ -1,7 +1,8 @@
 //! Allowlists.
-ghost use Rattle.std.specs.Prelude.{◌≡◌};
+ghost use Rattle.std.specs.Prelude.{◌≡◌, ◌++◌, ◌∷◌, [], OnOk};
 
 use pe_origin::{Origin, Tuple};
+use std::alloc::AllocError;
 use std::marker::Model;
 
 /// An expression of an allowlist, as `https://pay.example` or `https://*.pay.example`.
@@ -34,6 +35,14 @@ impl Expressions {
         ensures { result ≡ items.items }
     {
         Expressions { items }
+    }
+
+    /// Puts an expression behind the others.
+    pub(crate) fn push(&mut self, expression: Expression) -> Result<(), AllocError>
+        ensures { OnOk result (self.new ≡ self.old ++ expression ∷ []) }
+    {
+        self.items.push(expression)?;
+        Ok(())
     }
 
     /// The expressions.
