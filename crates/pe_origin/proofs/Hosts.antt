@@ -1,28 +1,24 @@
-use Rattle.std.proofs.Common.{◌≡◌, ℕ, true, false, List, [], ◌∷◌, Option, Some, None, unwrap_or, option_map, refl, ◌==◌, length, IsUtf8, arith}
-use Rattle.std.specs.Str.{is_utf8}
+-- The text of a URL's host, as the crate `url` gives it.
+use Rattle.std.proofs.Common.{◌≡◌, ℕ, false, List, [], ◌∷◌, Option, Some, None, unwrap_or, option_map, refl, ◌==◌, length, arith}
 use Rattle.std.proofs.lemmas.Bool.Decides.{nat_tests}
-use Rattle.std.proofs.lemmas.Str.{IsUtf8-from_is_utf8}
 use Rattle.url.specs.declared.host.Host.{Host}
 use Rattle.url.specs.declared.host.Host.TheVariants.{Domain, Ipv4, Ipv6}
 use Rattle.url.specs.Host.{host_text}
 use Rattle.url.specs.Parts.{Parts, host_or_empty, nonempty_host}
 
-nonempty : (b : ℕ) (bs : List ℕ) → (length (b ∷ bs) == 0) ≡ false
-nonempty b bs = grind (arith, nat_tests)
+nonempty : (b : ℕ) (bytes : List ℕ) → (length (b ∷ bytes) == 0) ≡ false
+nonempty b bytes = grind (arith, nat_tests)
 
--- the text of the host, or nothing where it is missing or empty, is the text of the host or of the empty one
-shown : (host : Option (Host (List ℕ))) (port : Option ℕ) (path : List ℕ) (s u p : List ℕ) (q f : Option (List ℕ))
-    → let url : Parts = record { scheme = s; username = u; password = p; host = host; port = port; path = path; query = q; fragment = f } in
+-- `host_shown`, by the cases of the host
+shown : (host : Option (Host (List ℕ))) (port : Option ℕ) (path scheme username password : List ℕ) (query fragment : Option (List ℕ))
+    → let url : Parts = record { scheme = scheme; username = username; password = password; host = host; port = port; path = path; query = query; fragment = fragment } in
     unwrap_or (option_map host_text (nonempty_host url)) [] ≡ host_text (host_or_empty url)
-shown None port path s u p q f = refl
-shown (Some (Domain [])) port path s u p q f = refl
-shown (Some (Domain (b ∷ bs))) port path s u p q f = rw (nonempty b bs) refl
-shown (Some (Ipv4 a)) port path s u p q f = refl
-shown (Some (Ipv6 a)) port path s u p q f = refl
+shown None port path scheme username password query fragment = refl
+shown (Some (Domain [])) port path scheme username password query fragment = refl
+shown (Some (Domain (b ∷ bytes))) port path scheme username password query fragment = rw (nonempty b bytes) refl
+shown (Some (Ipv4 address)) port path scheme username password query fragment = refl
+shown (Some (Ipv6 address)) port path scheme username password query fragment = refl
 
+-- the text of the host where it is not empty, or else nothing, is the text of the host or of the empty one
 pub host_shown : (url : Parts) → unwrap_or (option_map host_text (nonempty_host url)) [] ≡ host_text (host_or_empty url)
 host_shown url = shown url.host url.port url.path url.scheme url.username url.password url.query url.fragment
-
--- no text, no test
-pub utf8_fails : (bs : List ℕ) → (IsUtf8 bs → ⊥) → is_utf8 bs ≡ false
-utf8_fails bs h = elim (is_utf8 bs) as (λ b. is_utf8 bs ≡ b → b ≡ false) [ true ↦ λ e. absurd (h (IsUtf8-from_is_utf8 bs e)) | false ↦ λ e. refl ] refl

@@ -1,6 +1,6 @@
 -- Which URLs are potentially trustworthy.
 -- W3C Secure Contexts, section 3.1 ("Is origin potentially trustworthy?") without the scheme `file`,
--- and section 3.2 ("Is url potentially trustworthy?").
+-- and section 3.2 ("Is url potentially trustworthy?") without about:srcdoc.
 use Rattle.std.specs.Prelude.{ℕ, Bool, true, false, ◌||◌, List, codes, bytes_eq, nat_eq, Option, Some, None}
 use Rattle.std.specs.List.{starts_with, ends_with}
 use Rattle.pe_origin.specs.declared.scheme.Scheme.{Scheme}

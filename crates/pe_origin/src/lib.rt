@@ -10,3 +10,6 @@ pub use origin::{Origin, Tuple, origin_text, same_origin};
 pub use place::{Place, PlaceFault, PlaceKind, read_place};
 pub use scheme::{HostForm, Scheme};
 pub use trust::trustworthy;
+
+#[cfg(test)]
+mod tests;

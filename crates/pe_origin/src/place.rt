@@ -1,9 +1,11 @@
 //! What the engine knows of a URL.
-ghost use Rattle.std.specs.Prelude.{◌≡◌, Some, None, IfOk, IfErr};
+ghost use Rattle.std.specs.Prelude.{◌≡◌, ◌≢◌, ◌↔◌, Some, None, IfOk, IfErr, IsSome};
+ghost use Rattle.url.specs.Parser.{parse_url};
 ghost use Rattle.url.specs.Parts.{host_or_empty};
 ghost use Rattle.pe_origin.specs.Places as spec;
-ghost use Rattle.pe_origin.specs.Places.{place_at};
+ghost use Rattle.pe_origin.specs.Places.{place_at, place_of_parsed};
 ghost use Rattle.pe_origin.specs.declared.place.PlaceFault.TheVariants.{NotAUrl};
+ghost use Rattle.pe_origin.specs.declared.place.PlaceKind.TheVariants.{Net};
 
 use crate::origin::Tuple;
 use crate::scheme::{HostForm, Scheme};
@@ -56,7 +58,8 @@ fn form_of(url: &Url) -> HostForm
 }
 
 fn kind_without_tuple(url: &Url) -> PlaceKind
-    ensures { result ≡ spec.kind_without_tuple url.now }
+    ensures value { result ≡ spec.kind_without_tuple url.now }
+    ensures not_net { result ≢ Net }
 {
     if url.scheme() == "about" && url.path() == "blank" {
         PlaceKind::Blank
@@ -82,7 +85,8 @@ fn tuple_of(alloc: Global, scheme: Scheme, url: &Url) -> Result<Tuple, AllocErro
 
 #[tactic(auto, unfolding(crate::specs::Places::place_of))]
 fn place_of(alloc: Global, url: &Url) -> Result<Place, AllocError>
-    ensures { IfOk result (λ place. place ≡ spec.place_of url.now) }
+    ensures value { IfOk result (λ place. place ≡ spec.place_of url.now) }
+    ensures net { IfOk result (λ place. IsSome place.tuple ↔ (place.kind ≡ Net)) }
 {
     match Scheme::named(url.scheme()) {
         Some(scheme) => Ok(Place {
@@ -96,22 +100,28 @@ fn place_of(alloc: Global, url: &Url) -> Result<Place, AllocError>
     }
 }
 
+fn read_url(alloc: Global, text: &str) -> Result<Place, PlaceFault>
+    ensures read { IfOk result (λ place. place_of_parsed (parse_url None text.now) ≡ Some place) }
+    ensures net { IfOk result (λ place. IsSome place.tuple ↔ (place.kind ≡ Net)) }
+    ensures not_a_url { IfErr result (λ fault. fault ≡ NotAUrl → place_of_parsed (parse_url None text.now) ≡ None) }
+{
+    match Url::parse(alloc, text) {
+        Ok(url) => place_of(alloc, &url).map_err(|_| PlaceFault::Memory),
+        Err(ParseError::OutOfMemory | ParseError::Overflow) => Err(PlaceFault::Memory),
+        Err(_) => Err(PlaceFault::NotAUrl),
+    }
+}
+
 /// Reads a URL by the URL Standard's parser, without a base URL. `NotAUrl` comes exactly where the
 /// text is not UTF-8 or the parser refuses it, as long as there is room.
-#[tactic(auto, using(crate::proofs::Hosts::utf8_fails), unfolding(crate::specs::Places::place_at))]
+#[tactic(auto, using(crate::proofs::Utf8::is_utf8_holds, crate::proofs::Utf8::is_utf8_fails), unfolding(crate::specs::Places::place_at))]
 pub fn read_place(alloc: Global, text: &[u8]) -> Result<Place, PlaceFault>
     ensures read { IfOk result (λ place. place_at text.now ≡ Some place) }
+    ensures net { IfOk result (λ place. IsSome place.tuple ↔ (place.kind ≡ Net)) }
     ensures not_a_url { IfErr result (λ fault. fault ≡ NotAUrl → place_at text.now ≡ None) }
 {
-    let Ok(text) = str::from_utf8(text) else {
-        return Err(PlaceFault::NotAUrl);
-    };
-    match Url::parse(alloc, text) {
-        Ok(url) => match place_of(alloc, &url) {
-            Ok(place) => Ok(place),
-            Err(_) => Err(PlaceFault::Memory),
-        },
-        Err(ParseError::OutOfMemory | ParseError::Overflow) => Err(PlaceFault::Memory),
+    match str::from_utf8(text) {
+        Ok(text) => read_url(alloc, text),
         Err(_) => Err(PlaceFault::NotAUrl),
     }
 }
