@@ -1,5 +1,5 @@
 //! Features.
-ghost use Rattle.std.specs.Prelude.{◌≡◌, ◌≢◌, ◌↔◌, ◌<◌, IsNone, IsTrue, All, slice_get};
+ghost use Rattle.std.specs.Prelude.{◌≡◌, ◌≢◌, ◌↔◌, ◌<◌, IsTrue, All, slice_get};
 ghost use Rattle.pe_features.specs.Features.{
   feature_name,
   feature_number,
