@@ -22,6 +22,11 @@ infixl 10 ◌>>=◌
 abbrev pub ◌>>=◌ : {A B : Type 0} → Option A → (A → Option B) → Option B
 o >>= f = option_and_then f o
 
+-- what is made of the value, or else this
+abbrev pub option_map_or : {A B : Type 0} → B → (A → B) → Option A → B
+option_map_or other f None = other
+option_map_or other f (Some x) = f x
+
 -- the same with this made of the value
 abbrev pub read_map : {A B : Type 0} → (A → B) → Read A → Read B
 read_map f read = option_map (λ r. (f r.0, r.1)) read
@@ -49,10 +54,16 @@ abbrev pub is_empty : List ℕ → Bool
 is_empty [] = true
 is_empty (b ∷ bs) = false
 
+-- the text begins with a byte that passes the test
+abbrev pub begins : (ℕ → Bool) → List ℕ → Bool
+begins test [] = false
+begins test (b ∷ bs) = test b
+
 -- as many as can be read, one behind the other; the number only bounds how many
 unfoldable pub each : {A : Type 0} → (List ℕ → Read A) → ℕ → List ℕ → List A × List ℕ
 each one zero text = ([], text)
-each one (suc n) text = elim (one text) [ None ↦ ([], text) | Some r ↦ let others = each one n r.1 in (r.0 ∷ others.0, others.1) ]
+each one (suc n) text =
+    option_map_or ([], text) (λ r. let others = each one n r.1 in (r.0 ∷ others.0, others.1)) (one text)
 
 -- a key: a lower-case letter or `*`, and the further bytes of a key
 unfoldable pub key_at : List ℕ → Read (List ℕ)
@@ -74,15 +85,17 @@ decimal_of negative whole fraction =
     then Some (Decimal (signed negative (digits_value 10 whole * 1000 + thousandths fraction)))
     else None
 
+-- what the digits before and behind a point spell, and the bytes behind them
+abbrev pub decimal_at : Bool → List ℕ → List ℕ → Read Bare
+decimal_at negative whole text =
+    option_map (λ bare. (bare, drop_while is_digit text)) (decimal_of negative whole (take_while is_digit text))
+
 -- a decimal where a point stands behind the digits, else an integer
 unfoldable pub number_at : Bool → List ℕ → Read Bare
 number_at negative text =
     let whole = take_while is_digit text in
     let rest = drop_while is_digit text in
-    elim (behind 46 rest) [
-      | None ↦ option_map (λ bare. (bare, rest)) (integer_of negative whole)
-      | Some fraction ↦ option_map (λ bare. (bare, drop_while is_digit fraction)) (decimal_of negative whole (take_while is_digit fraction))
-    ]
+    option_map_or (option_map (λ bare. (bare, rest)) (integer_of negative whole)) (decimal_at negative whole) (behind 46 rest)
 
 -- the bytes of a string behind its opening quote; a quote and a backslash stand behind a backslash
 unfoldable pub text_at : List ℕ → Read (List ℕ)
@@ -92,8 +105,8 @@ text_at (b ∷ c ∷ bs) =
     elim (b == 34) [
       | true ↦ Some ([], c ∷ bs)
       | false ↦ elim (b == 92) [
-        | true ↦ (if (c == 34) || (c == 92) then read_map (λ text. c ∷ text) (text_at bs) else None)
-        | false ↦ (if is_text_byte b then read_map (λ text. b ∷ text) (text_at (c ∷ bs)) else None)
+        | true ↦ if (c == 34) || (c == 92) then read_map (λ text. c ∷ text) (text_at bs) else None
+        | false ↦ if is_text_byte b then read_map (λ text. b ∷ text) (text_at (c ∷ bs)) else None
       ]
     ]
 
@@ -121,7 +134,7 @@ bare_at (b ∷ bs) =
 
 -- the value of a parameter: a bare item behind `=`, or true
 unfoldable pub given_at : List ℕ → Read Bare
-given_at text = elim (behind 61 text) [ None ↦ Some (Truth true, text) | Some rest ↦ bare_at rest ]
+given_at text = option_map_or (Some (Truth true, text)) bare_at (behind 61 text)
 
 -- a parameter: `;`, spaces, a key and its value
 unfoldable pub param_at : List ℕ → Read Param
@@ -148,9 +161,13 @@ next_item_at text = do
   rest ← behind 32 text
   item_at (skip_spaces rest)
 
+-- an item and the items behind it
+abbrev pub items_from : Item × List ℕ → List Item × List ℕ
+items_from first = let others = each next_item_at (length first.1) first.1 in (first.0 ∷ others.0, others.1)
+
 -- the items of an inner list, none or some
 unfoldable pub items_at : List ℕ → List Item × List ℕ
-items_at text = elim (item_at text) [ None ↦ ([], text) | Some r ↦ let others = each next_item_at (length r.1) r.1 in (r.0 ∷ others.0, others.1) ]
+items_at text = option_map_or ([], text) items_from (item_at text)
 
 -- an inner list behind its opening parenthesis
 unfoldable pub inner_at : List ℕ → Read (List Item)
@@ -159,13 +176,13 @@ inner_at text = do
   rest ← behind 41 (skip_spaces items.1)
   Some (items.0, rest)
 
--- the value of a member: an item or an inner list behind `=`, or true
+-- an inner list or a bare item, told by its first byte
+unfoldable pub listed_at : List ℕ → Read Value
+listed_at text = option_map_or (read_map value.Item (bare_at text)) (λ inner. read_map value.Inner (inner_at inner)) (behind 40 text)
+
+-- the value of a member: an inner list or a bare item behind `=`, or true
 unfoldable pub value_at : List ℕ → Read Value
-value_at text =
-    elim (behind 61 text) [
-      | None ↦ Some (value.Item (Truth true), text)
-      | Some rest ↦ elim (behind 40 rest) [ None ↦ read_map value.Item (bare_at rest) | Some inner ↦ read_map value.Inner (inner_at inner) ]
-    ]
+value_at text = option_map_or (Some (value.Item (Truth true), text)) listed_at (behind 61 text)
 
 -- a member: a key, its value and parameters
 unfoldable pub member_at : List ℕ → Read (List ℕ × Member)
@@ -181,12 +198,18 @@ next_member_at text = do
   rest ← behind 44 (skip_white text)
   member_at (skip_white rest)
 
+-- a member and the members behind it
+abbrev pub members_from : (List ℕ × Member) × List ℕ → List (List ℕ × Member) × List ℕ
+members_from first =
+    let others = each next_member_at (length first.1) first.1 in
+    (first.0 ∷ others.0, others.1)
+
 -- the members of a dictionary, of which there is one or more, up to the end of the text
 unfoldable pub members_of : List ℕ → Option (List (List ℕ × Member))
 members_of text = do
   first ← member_at text
-  let others = each next_member_at (length first.1) first.1
-  if is_empty (skip_white others.1) then Some (first.0 ∷ others.0) else None
+  let members = members_from first
+  if is_empty (skip_white members.1) then Some members.0 else None
 
 -- the dictionary of a whole text: nothing but spaces, or spaces and members
 unfoldable pub dictionary : List ℕ → Option (List (List ℕ × Member))

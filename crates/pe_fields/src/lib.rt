@@ -1,8 +1,18 @@
 //! Dictionaries of structured fields (RFC 8941).
 #![tactic(auto)]
 
+mod class;
 mod dictionary;
+mod fault;
+mod laws;
+mod number;
+mod reading;
+mod text;
 mod value;
 
-pub use dictionary::Dictionary;
+pub use dictionary::{Dictionary, parse_dictionary};
+pub use laws::{one_reading, reading_is_the_grammar};
 pub use value::{Bare, Item, Items, Member, Param, Params, Value};
+
+#[cfg(test)]
+mod tests;
