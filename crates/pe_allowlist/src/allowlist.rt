@@ -1,8 +1,9 @@
 //! Allowlists.
-ghost use Rattle.std.specs.Prelude.{◌≡◌, ◌++◌, ◌∷◌, [], OnOk};
+ghost use Rattle.std.specs.Prelude.{◌≡◌, ◌++◌, ◌∷◌, [], OnOk, OnErr};
+ghost use Rattle.pe_allowlist.specs.Allowlists.{empty_list};
 
 use pe_origin::{Origin, Tuple};
-use std::alloc::AllocError;
+use std::alloc::{AllocError, Global};
 use std::marker::Model;
 
 /// An expression of an allowlist, as `https://pay.example` or `https://*.pay.example`.
@@ -37,9 +38,10 @@ impl Expressions {
         Expressions { items }
     }
 
-    /// Puts an expression behind the others.
-    pub(crate) fn push(&mut self, expression: Expression) -> Result<(), AllocError>
-        ensures { OnOk result (self.new ≡ self.old ++ expression ∷ []) }
+    /// Puts an expression behind the others. `AllocError` where memory wants; the list is then as before.
+    pub fn push(&mut self, expression: Expression) -> Result<(), AllocError>
+        ensures put { OnOk result (self.new ≡ self.old ++ expression ∷ []) }
+        ensures wanting { OnErr result (self.new ≡ self.old) }
     {
         self.items.push(expression)?;
         Ok(())
@@ -66,4 +68,19 @@ pub struct Allowlist {
     pub src_opaque: bool,
     /// The expressions that stand in it.
     pub expressions: Expressions,
+}
+
+impl Allowlist {
+    /// The list that matches nothing. It takes no memory.
+    pub fn empty(alloc: Global) -> Allowlist
+        ensures { result ≡ empty_list }
+    {
+        Allowlist {
+            any: false,
+            selves: None,
+            src: None,
+            src_opaque: false,
+            expressions: Expressions::of(Vec::new(alloc)),
+        }
+    }
 }

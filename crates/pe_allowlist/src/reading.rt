@@ -4,11 +4,10 @@ ghost use Rattle.std.specs.Option.{option_copied, option_or};
 ghost use Rattle.pe_features.specs.declared.feature.Feature.{Feature};
 ghost use Rattle.pe_features.specs.Features.{feature_name};
 ghost use Rattle.pe_allowlist.specs.AsciiWords.{pieces_at};
-ghost use Rattle.pe_allowlist.specs.Allowlists.{empty_list};
 ghost use Rattle.pe_allowlist.specs.Lists.{lists_of, is_policy_controlled};
 ghost use Rattle.pe_allowlist.specs.ContainerPolicy as spec;
 
-use crate::allowlist::{Allowlist, Expressions};
+use crate::allowlist::Allowlist;
 use crate::container::{Container, DeclaredOrigin};
 use crate::expression::read_expression;
 use crate::pairs::{find_list, put_list};
@@ -16,19 +15,6 @@ use crate::words::{is_keyword, pieces, words};
 use pe_features::Feature;
 use pe_origin::Origin;
 use std::alloc::{AllocError, Global};
-
-/// The list that matches nothing.
-fn empty_list(alloc: Global) -> Allowlist
-    ensures { result ≡ empty_list }
-{
-    Allowlist {
-        any: false,
-        selves: None,
-        src: None,
-        src_opaque: false,
-        expressions: Expressions::of(Vec::new(alloc)),
-    }
-}
 
 /// Puts into the list what `'src'` stands for.
 fn put_src(list: &mut Allowlist, declared: &DeclaredOrigin) -> Result<(), AllocError>
@@ -79,7 +65,7 @@ fn list_of_words(
 ) -> Result<Allowlist, AllocError>
     ensures { IfOk result (λ list. list ≡ spec.list_of_words embedder.now declared.now (map (λ x. x.now) words.now)) }
 {
-    let mut list = empty_list(alloc);
+    let mut list = Allowlist::empty(alloc);
     if words.is_empty() {
         put_src(&mut list, declared)?;
         return Ok(list);
@@ -158,7 +144,7 @@ fn put_fullscreen(
     if find_list(rows, Feature::Fullscreen).is_some() {
         return Ok(());
     }
-    let mut list = empty_list(alloc);
+    let mut list = Allowlist::empty(alloc);
     list.any = true;
     put_list(rows, Feature::Fullscreen, list)
 }
