@@ -15,3 +15,6 @@ pub use container::{Container, DeclaredOrigin};
 pub use declared::Declared;
 pub use expression::read_expression;
 pub use reading::read_allow;
+
+#[cfg(test)]
+mod tests;

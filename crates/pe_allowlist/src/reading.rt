@@ -5,6 +5,7 @@ ghost use Rattle.pe_features.specs.declared.feature.Feature.{Feature};
 ghost use Rattle.pe_features.specs.Features.{feature_name};
 ghost use Rattle.pe_allowlist.specs.AsciiWords.{pieces_at};
 ghost use Rattle.pe_allowlist.specs.Lists.{lists_of, is_policy_controlled};
+ghost use Rattle.pe_allowlist.specs.Expressions.{expression_at};
 ghost use Rattle.pe_allowlist.specs.ContainerPolicy as spec;
 
 use crate::allowlist::Allowlist;
@@ -31,6 +32,16 @@ fn put_src(list: &mut Allowlist, declared: &DeclaredOrigin) -> Result<(), AllocE
     Ok(())
 }
 
+/// Puts an expression into the list, where the word is one.
+fn put_expression(alloc: Global, list: &mut Allowlist, word: &[u8]) -> Result<(), AllocError>
+    ensures { OnOk result (list.new ≡ spec.with_expression (expression_at word.now) list.old) }
+{
+    if let Some(expression) = read_expression(alloc, word)? {
+        list.expressions.push(expression)?;
+    }
+    Ok(())
+}
+
 /// Puts into the list what a word of the attribute stands for.
 #[tactic(auto, unfolding(crate::specs::ContainerPolicy::with_word))]
 fn put_word(
@@ -48,10 +59,8 @@ fn put_word(
         list.selves = Some(embedder.copy()?);
     } else if is_keyword(word, b"'src'") {
         put_src(list, declared)?;
-    } else if is_keyword(word, b"'none'") {} else if let Some(expression) = read_expression(
-        alloc, word,
-    )? {
-        list.expressions.push(expression)?;
+    } else if !is_keyword(word, b"'none'") {
+        put_expression(alloc, list, word)?;
     }
     Ok(())
 }

@@ -5,3 +5,6 @@ mod header;
 mod reading;
 
 pub use header::read_header;
+
+#[cfg(test)]
+mod tests;
