@@ -20,7 +20,7 @@ const C: &str = "https://c.example";
 
 /// Documents from the top one down, how many of them there are, the feature, and the test that the
 /// rules name with its document.
-const CHAINS: [([Doc; 4], usize, Feature, Option<(LinkRule, u32)>); 33] = [
+const CHAINS_1: [([Doc; 4], usize, Feature, Option<(LinkRule, u32)>); 11] = [
     (
         [
             (A, None, None),
@@ -142,6 +142,9 @@ const CHAINS: [([Doc; 4], usize, Feature, Option<(LinkRule, u32)>); 33] = [
         Feature::Camera,
         Some((LinkRule::EmbedderSelf, 1)),
     ),
+];
+
+const CHAINS_2: [([Doc; 4], usize, Feature, Option<(LinkRule, u32)>); 11] = [
     (
         [
             (A, Some("https://b.example"), None),
@@ -263,6 +266,9 @@ const CHAINS: [([Doc; 4], usize, Feature, Option<(LinkRule, u32)>); 33] = [
         Feature::Camera,
         Some((LinkRule::EmbedderHeader, 2)),
     ),
+];
+
+const CHAINS_3: [([Doc; 4], usize, Feature, Option<(LinkRule, u32)>); 11] = [
     (
         [
             (A, None, None),
@@ -438,28 +444,79 @@ fn container(
     }
 }
 
-#[test]
-fn the_first_failing_test_is_named(rt: HostRuntime) -> Result<(), Fail> {
-    for (docs, count, feature, expected) in CHAINS {
-        let (url, header, _) = docs[0];
-        let doc = DocNo::of(1);
-        let mut own = origin(rt.alloc(), url, doc)?;
-        let mut policy = Policy::make_top(declared(rt.alloc(), header, &own, feature)?, &own, doc);
-        for i in 1..4 {
-            if i >= count {
-                break;
-            }
-            let (url, header, allow) = docs[i];
+/// The policy of a document below another, and its origin.
+fn child(
+    alloc: Global,
+    parent: &Policy,
+    embedder: &Origin,
+    row: Doc,
+    feature: Feature,
+    doc: DocNo,
+) -> Result<(Policy, Origin), PlaceFault> {
+    let (url, header, allow) = row;
+    let container = container(alloc, allow, embedder, doc)?;
+    let own = origin(alloc, url, doc)?;
+    let Ok(header) = declared(alloc, header, &own, feature) else {
+        return Err(PlaceFault::Memory);
+    };
+    let policy = Policy::make_child(parent, embedder, &container, &own, header, doc);
+    Ok((policy, own))
+}
+
+/// The policy of a top document, and its origin.
+fn top(alloc: Global, row: Doc, feature: Feature) -> Result<(Policy, Origin), PlaceFault> {
+    let (url, header, _) = row;
+    let doc = DocNo::of(1);
+    let own = origin(alloc, url, doc)?;
+    let Ok(header) = declared(alloc, header, &own, feature) else {
+        return Err(PlaceFault::Memory);
+    };
+    Ok((Policy::make_top(header, &own, doc), own))
+}
+
+/// Why the feature is denied in the last of the first so many documents.
+fn denial_along(
+    alloc: Global,
+    docs: [Doc; 4],
+    count: usize,
+    feature: Feature,
+) -> Result<Option<(LinkRule, u32)>, PlaceFault> {
+    let (mut policy, mut own) = top(alloc, docs[0], feature)?;
+    for i in 1..4 {
+        if i < count {
             let doc = DocNo::of(i as u32 + 1);
-            let container = container(rt.alloc(), allow, &own, doc)?;
-            let child = origin(rt.alloc(), url, doc)?;
-            let header = declared(rt.alloc(), header, &child, feature)?;
-            policy = Policy::make_child(&policy, &own, &container, &child, header, doc);
-            own = child;
+            (policy, own) = child(alloc, &policy, &own, docs[i], feature, doc)?;
         }
-        let found = policy
+    }
+    Ok(
+        policy
             .why(feature)
-            .map(|denial| (denial.rule, denial.at.get()));
+            .map(|denial| (denial.rule, denial.at.get())),
+    )
+}
+
+#[test]
+fn the_first_failing_test_is_named_in_the_first_chains(rt: HostRuntime) -> Result<(), Fail> {
+    for (docs, count, feature, expected) in CHAINS_1 {
+        let found = denial_along(rt.alloc(), docs, count, feature)?;
+        assert_eq!(rt; found, expected, "{docs:?} {count} {feature:?}");
+    }
+    Ok(())
+}
+
+#[test]
+fn the_first_failing_test_is_named_in_the_second_chains(rt: HostRuntime) -> Result<(), Fail> {
+    for (docs, count, feature, expected) in CHAINS_2 {
+        let found = denial_along(rt.alloc(), docs, count, feature)?;
+        assert_eq!(rt; found, expected, "{docs:?} {count} {feature:?}");
+    }
+    Ok(())
+}
+
+#[test]
+fn the_first_failing_test_is_named_in_the_third_chains(rt: HostRuntime) -> Result<(), Fail> {
+    for (docs, count, feature, expected) in CHAINS_3 {
+        let found = denial_along(rt.alloc(), docs, count, feature)?;
         assert_eq!(rt; found, expected, "{docs:?} {count} {feature:?}");
     }
     Ok(())
