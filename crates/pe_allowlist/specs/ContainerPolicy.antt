@@ -64,24 +64,27 @@ list_by_words embedder declared feature [] = None
 list_by_words embedder declared feature (name ∷ words) =
     if bytes_eq name (feature_name feature) then Some (list_of_words embedder declared words) else None
 
--- what the last piece that names the feature gives it
+-- what a piece gives the feature, which has to be policy-controlled
+abbrev pub list_by_piece : Origin → DeclaredOrigin → Feature → List ℕ → Option Allowlist
+list_by_piece embedder declared feature piece =
+    if is_policy_controlled feature then list_by_words embedder declared feature (ascii_words piece) else None
+
+-- what the last of the pieces that name the feature gives it
 unfoldable pub list_by_pieces : Origin → DeclaredOrigin → Feature → List (List ℕ) → Option Allowlist
 list_by_pieces embedder declared feature [] = None
 list_by_pieces embedder declared feature (piece ∷ pieces) =
     let later = list_by_pieces embedder declared feature pieces in
-    option_or later (list_by_words embedder declared feature (ascii_words piece))
+    option_or later (list_by_piece embedder declared feature piece)
 
 -- what the `fullscreen` attribute gives the feature
 abbrev pub list_by_fullscreen : Bool → Feature → Option Allowlist
 list_by_fullscreen fullscreen feature =
-    if fullscreen && same_feature feature Fullscreen then Some (with_any empty_list) else None
+    if fullscreen && same_feature Fullscreen feature then Some (with_any empty_list) else None
 
 -- the container policy, of the `allow` attribute's text, whether the `fullscreen` attribute stands,
 -- the embedder's origin and the declared origin; without the attribute the text is empty
 unfoldable pub container_policy : Option (List ℕ) → Bool → Origin → DeclaredOrigin → Lists
 container_policy text fullscreen embedder declared feature =
-    if is_policy_controlled feature
-    then option_or
+    option_or
     (list_by_pieces embedder declared feature (pieces_at is_semicolon (unwrap_or text [])))
     (list_by_fullscreen fullscreen feature)
-    else None

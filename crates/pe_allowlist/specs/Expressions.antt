@@ -2,7 +2,7 @@
 -- Permissions Policy, section "allowlist" ("permissions-source-expression"). The forms of expressions
 -- and what they match are this project's own: a URL, whose path is ignored, or one with `*.` before
 -- its host.
-use Rattle.std.specs.Prelude.{ℕ, ◌+◌, nat_eq, nat_lt, Bool, true, false, ◌&&◌, ◌==◌, List, [], ◌∷◌, ◌++◌, length, drop, codes, Option, Some, None, option_map, option_and_then, if◌then◌else◌}
+use Rattle.std.specs.Prelude.{ℕ, ◌+◌, nat_eq, nat_lt, Bool, true, false, ◌&&◌, ◌==◌, List, [], ◌∷◌, ◌++◌, length, take, drop, codes, Option, Some, None, option_map, option_and_then, if◌then◌else◌}
 use Rattle.std.specs.List.{starts_with, ends_with}
 use Rattle.pe_origin.specs.declared.scheme.HostForm.{HostForm}
 use Rattle.pe_origin.specs.declared.scheme.HostForm.TheVariants.{Domain, V4, V6}
@@ -24,15 +24,24 @@ is_domain V6 = false
 unfoldable pub tuple_at : List ℕ → Option Tuple
 tuple_at text = option_and_then (λ (place : Place). place.tuple) (place_at text)
 
+-- the place of the first `://`
+unfoldable pub separator_at : List ℕ → Option ℕ
+separator_at [] = None
+separator_at (b ∷ bytes) =
+    let later = separator_at bytes in
+    if starts_with nat_eq (b ∷ bytes) (codes "://") then Some 0 else option_map (λ place. place + 1) later
+
+-- the text without the two bytes `*.` behind a `://` that stands at this place
+abbrev pub without_star_at : List ℕ → Option ℕ → Option (List ℕ)
+without_star_at text (Some place) =
+    if starts_with nat_eq (drop (place + 3) text) (codes "*.") then Some (take (place + 3) text ++ drop (place + 5) text)
+    else None
+without_star_at text None = None
+
 -- the text without the two bytes `*.` directly after its first `://`, or nothing where they do not
 -- stand there
 unfoldable pub without_star : List ℕ → Option (List ℕ)
-without_star [] = None
-without_star (b ∷ bytes) =
-    let later = without_star bytes in
-    if starts_with nat_eq (b ∷ bytes) (codes "://*.") then Some (codes "://" ++ drop 5 (b ∷ bytes))
-    else (if starts_with nat_eq (b ∷ bytes) (codes "://") then None
-    else option_map (λ rest. b ∷ rest) later)
+without_star text = without_star_at text (separator_at text)
 
 -- the expression that matches this tuple alone
 abbrev pub plain : Tuple → Expression

@@ -1,7 +1,9 @@
 //! Allowlists.
-ghost use Rattle.std.specs.Prelude.{◌≡◌};
+ghost use Rattle.std.specs.Prelude.{◌≡◌, ◌++◌, ◌∷◌, [], OnOk, OnErr};
+ghost use Rattle.pe_allowlist.specs.Allowlists.{empty_list};
 
 use pe_origin::{Origin, Tuple};
+use std::alloc::{AllocError, Global};
 use std::marker::Model;
 
 /// An expression of an allowlist, as `https://pay.example` or `https://*.pay.example`.
@@ -36,6 +38,15 @@ impl Expressions {
         Expressions { items }
     }
 
+    /// Puts an expression behind the others. `AllocError` where memory wants; the list is then as before.
+    pub fn push(&mut self, expression: Expression) -> Result<(), AllocError>
+        ensures put { OnOk result (self.new ≡ self.old ++ expression ∷ []) }
+        ensures wanting { OnErr result (self.new ≡ self.old) }
+    {
+        self.items.push(expression)?;
+        Ok(())
+    }
+
     /// The expressions.
     pub fn as_slice(&self) -> &[Expression]
         ensures { result.now ≡ self.now }
@@ -57,4 +68,19 @@ pub struct Allowlist {
     pub src_opaque: bool,
     /// The expressions that stand in it.
     pub expressions: Expressions,
+}
+
+impl Allowlist {
+    /// The list that matches nothing. It takes no memory.
+    pub fn empty(alloc: Global) -> Allowlist
+        ensures { result ≡ empty_list }
+    {
+        Allowlist {
+            any: false,
+            selves: None,
+            src: None,
+            src_opaque: false,
+            expressions: Expressions::of(Vec::new(alloc)),
+        }
+    }
 }

@@ -35,6 +35,13 @@ impl Model for Container {
 }
 
 impl Container {
+    /// The map of these pairs.
+    pub(crate) fn of(rows: Vec<(Feature, Allowlist)>) -> Container
+        ensures { result ≡ rows.items }
+    {
+        Container { rows }
+    }
+
     /// The allowlist of the feature; None where the map lacks it.
     pub fn get(&self, feature: Feature) -> Option<&Allowlist>
         ensures { option_copied result ≡ lists_of self.now feature }

@@ -4,9 +4,17 @@
 mod allowlist;
 mod container;
 mod declared;
+mod expression;
 mod matching;
 mod pairs;
+mod reading;
+mod words;
 
 pub use allowlist::{Allowlist, Expression, Expressions};
 pub use container::{Container, DeclaredOrigin};
 pub use declared::Declared;
+pub use expression::read_expression;
+pub use reading::read_allow;
+
+#[cfg(test)]
+mod tests;

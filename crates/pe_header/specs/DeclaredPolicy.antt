@@ -3,6 +3,7 @@
 -- RFC 8941, section 3.2. The forms of expressions are this project's own.
 use Rattle.std.specs.Prelude.{ℕ, List, codes, bytes_eq, Option, Some, None, unwrap_or, option_and_then, if◌then◌else◌}
 use Rattle.std.specs.List.{fold}
+use Rattle.pe_features.specs.declared.feature.Feature.{Feature}
 use Rattle.pe_features.specs.Features.{feature_name}
 use Rattle.pe_origin.specs.declared.origin.Origin.{Origin}
 use Rattle.pe_allowlist.specs.declared.allowlist.Allowlist.{Allowlist}
@@ -45,10 +46,12 @@ list_of_value own (value.Inner items) = Some (fold (with_item own) empty_list it
 abbrev pub list_of_key : Origin → List ℕ → List (List ℕ × Member) → Option Allowlist
 list_of_key own key members = option_and_then (λ (member : Member). list_of_value own member.value) (last_of members key)
 
+-- the allowlist that the members declare for the feature, which has to be policy-controlled
+abbrev pub list_of_members : Origin → Feature → List (List ℕ × Member) → Option Allowlist
+list_of_members own feature members =
+    if is_policy_controlled feature then list_of_key own (feature_name feature) members else None
+
 -- the declared policy, of the header's field and the document's own origin; a field that is missing or
 -- no dictionary declares nothing
 unfoldable pub declared_policy : Option (List ℕ) → Origin → Lists
-declared_policy field own feature =
-    if is_policy_controlled feature
-    then option_and_then (list_of_key own (feature_name feature)) (option_and_then dictionary field)
-    else None
+declared_policy field own feature = option_and_then (list_of_members own feature) (option_and_then dictionary field)

@@ -10,3 +10,6 @@ pub use law::denial_is_by_value;
 pub use link::{first_link, own_link};
 pub use policy::Policy;
 pub use row::Links;
+
+#[cfg(test)]
+mod tests;

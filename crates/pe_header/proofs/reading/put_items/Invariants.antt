@@ -1,0 +1,7 @@
+use Rattle.std.proofs.Common.{◌≡◌, take}
+use Rattle.std.specs.List.{fold}
+use Rattle.pe_header.specs.DeclaredPolicy.{with_item}
+use Rattle.pe_header.proofs.reading.put_items.Given as goal
+
+abbrev pub invariant-loop-item : goal.invariant-loop-item
+invariant-loop-item l = l.list ≡ fold (with_item l.own) l.initial.list (take l.item-index l.items)
