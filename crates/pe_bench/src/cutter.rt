@@ -1,4 +1,6 @@
 //! Cutting lines.
+ghost use Rattle.std.specs.Prelude.{◌≡◌, OnOk, false};
+
 use pe_lines::Cutter;
 use std::alloc::{AllocError, Global};
 
@@ -32,20 +34,35 @@ pub fn lines_cut(
     let text = text(alloc, length)?;
     let mut cutter = Cutter::new(alloc);
     let mut lines = 0u64;
-    for _ in 0..bytes / text.len().max(1) {
-        for part in text.chunks(piece.max(1)) {
-            cutter.feed(part)?;
-            lines = lines.saturating_add(lines_whole(&mut cutter));
-        }
+    'texts: for _ in 0..bytes / text.len().max(1) {
+        let more = lines_fed(&mut cutter, &text, piece)?;
+        lines = lines.saturating_add(more);
+    }
+    Ok(lines)
+}
+
+/// How many lines are whole once the text is fed in pieces of this size; they are taken.
+fn lines_fed(cutter: &mut Cutter, text: &[u8], piece: usize) -> Result<u64, AllocError>
+    requires { cutter.old.finished ≡ false }
+    ensures { OnOk result (cutter.new.finished ≡ false) }
+{
+    let mut lines = 0u64;
+    'pieces: for part in text.chunks(piece.max(1)) {
+        cutter.feed(part)?;
+        lines = lines.saturating_add(lines_whole(cutter));
     }
     Ok(lines)
 }
 
 /// How many whole lines the cutter has; they are taken.
-fn lines_whole(cutter: &mut Cutter) -> u64 {
-    let mut lines = 0u64;
-    while cutter.next_line().is_some() {
-        lines = lines.saturating_add(1);
+fn lines_whole(cutter: &mut Cutter) -> u64
+    ensures { cutter.new.finished ≡ cutter.old.finished }
+{
+    'lines: for lines in 0..u64::MAX {
+        match cutter.next_line() {
+            Some(_) => {}
+            None => return lines,
+        }
     }
-    lines
+    u64::MAX
 }

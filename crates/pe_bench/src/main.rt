@@ -9,17 +9,22 @@ mod cutter;
 mod fields;
 
 use std::alloc::AllocError;
-use std::env;
-use std::io;
 use std::process::ExitCode;
+use std::{env, io};
 
 /// What is written where the arguments are of no form.
 const USAGE: &str = "usage: pe_bench fields COUNT | cutter BYTES LENGTH PIECE";
 
 /// What is to be measured.
 enum Work {
-    Fields { count: u32 },
-    Cutter { bytes: usize, length: usize, piece: usize },
+    Fields {
+        count: u32,
+    },
+    Cutter {
+        bytes: usize,
+        length: usize,
+        piece: usize,
+    },
 }
 
 /// The work that the arguments name.
@@ -53,7 +58,13 @@ fn main(rt: HostRuntime) -> io::Result<ExitCode> {
             let members = fields::members_read(rt.alloc(), count)?;
             println!(rt; "{count} headers, {members} members")?;
         }
-        Some(Work::Cutter { bytes, length, piece }) => {
+        Some(
+            Work::Cutter {
+                bytes,
+                length,
+                piece,
+            },
+        ) => {
             let lines = cutter::lines_cut(rt.alloc(), bytes, length, piece)?;
             println!(rt; "{bytes} bytes, {lines} lines")?;
         }
