@@ -1,17 +1,17 @@
 -- What each step of the reader of words finds, over plain lists.
-use Rattle.std.proofs.Common.{◌≡◌, ℕ, suc, zero, ◌+◌, ◌-◌, ◌<◌, ◌≤◌, Bool, true, false, not, List, [], ◌∷◌, ◌++◌, length, take, drop, get_or, Option, Some, None, sym, ap, ◌∙◌, refl, arith, append_assoc, append-nil, length-append, subst}
-use Rattle.std.specs.Prelude.{◌==◌, ◌||◌, ◌&&◌, if◌then◌else◌, option_map}
+use Rattle.std.proofs.Common.{◌≡◌, ℕ, suc, zero, ◌+◌, ◌<◌, ◌≤◌, Bool, true, false, not, List, [], ◌∷◌, ◌++◌, length, take, drop, get_or, Option, Some, None, sym, ap, ◌∙◌, refl, arith, append_assoc, length-append, subst}
+use Rattle.std.specs.Prelude.{◌==◌, ◌||◌, if◌then◌else◌, option_map}
 use Rattle.std.specs.List.{list_all, list_any, position, position_or_len}
 use Rattle.std.proofs.lemmas.Bool.Decides.{nat_tests}
 use Rattle.std.proofs.lemmas.Bool.{eqb-true}
-use Rattle.std.proofs.lemmas.List.{get_or-take, get_or-drop, length-take, length-drop, drop-drop, drop_more, drop_all, take-append-drop, drop-take, take_at, drop_at, take_all}
+use Rattle.std.proofs.lemmas.List.{get_or-take, get_or-drop, length-take, length-drop, drop-drop, drop_more, take-append-drop}
 use Rattle.std.proofs.Math.Seq.{take-append-add}
 use Rattle.std.proofs.lemmas.List.Sums.{fails_before_first, passes_at_first, prefix_len-le-length, list_all-from_AllPass}
 use Rattle.pe_lines.specs.declared.word.Word.{Word}
-use Rattle.pe_lines.specs.Words.{is_blank, Kind, Blank, Quote, Backslash, Other, kind_of, Stage, Between, Bare, Quoted, Escaped, Closed, Ahead, closed, longer, begun, ahead_at_byte, ahead_of, words_of}
-use Rattle.pe_lines.specs.Grammar.{is_escaped, escaped, written, ends_bare, is_bare, IsBareText, HasForm, ends_word, StandsFirst}
+use Rattle.pe_lines.specs.Words.{is_blank, Between, Bare, Quoted, Escaped, Closed, Ahead, closed, longer, begun, ahead_at_byte, ahead_of, words_of}
+use Rattle.pe_lines.specs.Grammar.{is_escaped, escaped, ends_bare, is_bare, IsBareText, ends_word}
 use Rattle.pe_lines.specs.Steps.{IsWordAt, HasNoWords, char_len, begins_quote, IsEscapedFront, ClosesAfter, NeverCloses, without_escapes}
-use Rattle.pe_lines.proofs.Ahead.{kind_by, opened, prefixed, with_word, option_map-comp, and_first, and_rest, first_bare_byte, bare_byte, between_blank, quoted_ahead}
+use Rattle.pe_lines.proofs.Ahead.{kind_by, prefixed, with_word, and_first, and_rest, first_bare_byte, bare_byte, quoted_ahead}
 use Rattle.pe_lines.proofs.Agreement.{word_ahead}
 
 -- ---- bare words

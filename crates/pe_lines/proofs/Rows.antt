@@ -1,6 +1,6 @@
 -- Worked rows: lines and words of literal bytes.
-use Rattle.std.specs.Prelude.{◌≡◌, ℕ, List, [], ◌∷◌, ◌++◌, codes, refl, Option, Some, None, true, false}
-use Rattle.pe_lines.specs.Lines.{lines, ended_lines, told_lines}
+use Rattle.std.specs.Prelude.{◌≡◌, [], ◌∷◌, ◌++◌, codes, refl, Some, None, true, false}
+use Rattle.pe_lines.specs.Lines.{lines, ended_lines}
 use Rattle.pe_lines.specs.Words.{words_of, has_bad_byte, is_comment, is_blank_line}
 use Rattle.pe_lines.proofs.OnLiterals.{lines_on_literals}
 

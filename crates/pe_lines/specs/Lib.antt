@@ -1,4 +1,6 @@
 pub mod Lines
+pub mod Rests
+pub mod Cutting
 pub mod Texts
 pub mod Words
 pub mod Grammar

@@ -1,7 +1,7 @@
 -- The lines of a list of bytes.
 -- This project's own format.
 -- A carriage return is dropped only as the last byte of a line, once; a last line without a line feed counts where it has at least one byte.
-use Rattle.std.specs.Prelude.{ℕ, ◌==◌, Bool, List, [], ◌∷◌, length, map, Some, None, Option, if◌then◌else◌, nat_lt}
+use Rattle.std.specs.Prelude.{◌≡◌, ℕ, ◌==◌, Bool, false, All, List, [], ◌∷◌, length, map, Some, None, Option, if◌then◌else◌, nat_lt}
 use Rattle.std.specs.List.{slice_split}
 use Rattle.std.specs.Str.Lines.{strip_carriage_return}
 use Rattle.pe_base.specs.declared.limits.TheConstants.{LINE_LIMIT}
@@ -9,6 +9,10 @@ use Rattle.pe_base.specs.declared.limits.TheConstants.{LINE_LIMIT}
 -- the byte ends a line
 abbrev pub is_line_feed : ℕ → Bool
 is_line_feed b = b == 10
+
+-- no byte ends a line
+abbrev pub HasNoLineFeed : List ℕ → Type 0
+HasNoLineFeed bytes = All (λ b. is_line_feed b ≡ false) bytes
 
 -- the parts between the line feeds; there is always a last one, maybe empty
 abbrev pub parts : List ℕ → List (List ℕ)

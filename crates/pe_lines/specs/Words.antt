@@ -1,7 +1,7 @@
 -- The words of a line, with escapes undone and each with its place.
 -- This project's own format.
 -- A quoted word holds any bytes, `\"` for a quote and `\\` for a backslash; it may be empty, and a blank or the end stands behind it.
-use Rattle.std.specs.Prelude.{ℕ, ◌+◌, ◌==◌, ◌||◌, ◌&&◌, Bool, true, false, not, nat_lt, nat_le, List, [], ◌∷◌, Some, None, Option, option_map, if◌then◌else◌}
+use Rattle.std.specs.Prelude.{ℕ, ◌+◌, ◌==◌, ◌||◌, ◌&&◌, Bool, true, false, not, nat_le, List, [], ◌∷◌, Some, None, Option, option_map, if◌then◌else◌}
 use Rattle.std.specs.List.{list_any, list_all}
 use Rattle.pe_lines.specs.declared.word.Word.{Word}
 

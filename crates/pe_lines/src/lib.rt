@@ -1,10 +1,15 @@
 //! The lines of a script, and the words of a line.
 #![tactic(auto)]
 
-mod cut;
+mod cutter;
+mod laws;
 mod text;
 mod word;
 
-pub use cut::Cut;
+pub use cutter::{Cut, Cutter};
+pub use laws::{cuts_go_on, ended_lines_stay, words_are_by_grammar};
 pub use text::Text;
-pub use word::{Word, WordFault, words, words_are_by_grammar};
+pub use word::{Word, WordFault, words};
+
+#[cfg(test)]
+mod tests;

@@ -1,9 +1,8 @@
 //! The words of a line.
-ghost use Rattle.std.specs.Prelude.{◌≡◌, ◌<◌, ◌≤◌, ◌↔◌, List, IfOk, IfErr, IfSome, IfNone, IsErrOf, length, slice_index, true, false};
+ghost use Rattle.std.specs.Prelude.{◌≡◌, ◌<◌, ◌≤◌, ◌↔◌, Some, None, IfOk, IfErr, IfSome, IfNone, IsErrOf, length, slice_index, true, false};
 ghost use Rattle.std.specs.List.{position, position_or_len};
-ghost use Rattle.pe_lines.specs.declared.word.Word.{Word};
 ghost use Rattle.pe_lines.specs.Words.{is_blank, is_bad_byte, has_bad_byte, words_of};
-ghost use Rattle.pe_lines.specs.Grammar.{ends_bare, ends_word, is_escaped, AreWords};
+ghost use Rattle.pe_lines.specs.Grammar.{ends_bare, ends_word, is_escaped};
 ghost use Rattle.pe_lines.specs.Steps.{IsWordAt, HasNoWords, char_len, begins_quote, ClosesAfter, NeverCloses, without_escapes};
 
 use crate::text::Text;
@@ -270,8 +269,3 @@ pub fn words<'a>(alloc: Global, line: &'a [u8]) -> Result<Vec<Word<'a>>, WordFau
     }
     words_of(alloc, line)
 }
-
-/// The words of a line are those that the grammar makes it of.
-pub fn words_are_by_grammar(line: &[u8])
-    ensures { (words : List Word) → (words_of line.now ≡ Some words) ↔ AreWords line.now words }
-{}

@@ -1,4 +1,4 @@
-use Rattle.std.proofs.Common.{sym, ◌∙◌}
+use Rattle.std.proofs.Common.{sym}
 use Rattle.pe_lines.proofs.Found.{bare_to_end}
 use Rattle.pe_lines.proofs.word.bare_len.Goals as goal
 

@@ -1,4 +1,4 @@
-use Rattle.std.proofs.Common.{◌≡◌, ℕ, List, drop, length, Some, None, sym, ◌∙◌, false}
+use Rattle.std.proofs.Common.{◌≡◌, drop, Some, None, sym, ◌∙◌, false}
 use Rattle.std.proofs.lemmas.List.{take_rest}
 use Rattle.pe_lines.specs.Steps.{char_len, begins_quote}
 use Rattle.pe_lines.proofs.Found.{front_grows, never_closes, is_none}

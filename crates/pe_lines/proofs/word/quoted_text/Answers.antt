@@ -1,4 +1,4 @@
-use Rattle.std.proofs.Common.{◌≡◌, sym, ◌∙◌, false}
+use Rattle.std.proofs.Common.{sym, ◌∙◌}
 use Rattle.pe_lines.proofs.Found.{nothing_undone}
 use Rattle.pe_lines.proofs.word.quoted_text.Goals as goal
 

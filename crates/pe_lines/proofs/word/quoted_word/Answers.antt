@@ -1,4 +1,4 @@
-use Rattle.std.proofs.Common.{◌≡◌, ◌+◌, ◌-◌, List, ℕ, drop, take, length, sym, ◌∙◌, ap, true, false, arith}
+use Rattle.std.proofs.Common.{◌≡◌, ◌+◌, drop, take, sym, ◌∙◌, ap, true, false, arith}
 use Rattle.std.proofs.lemmas.List.{take_rest}
 use Rattle.pe_lines.specs.Grammar.{ends_word}
 use Rattle.pe_lines.specs.Steps.{ClosesAfter, without_escapes}

@@ -1,4 +1,4 @@
-use Rattle.std.proofs.Common.{◌≡◌, ◌++◌, [], ◌∷◌, drop, sym, subst, arith}
+use Rattle.std.proofs.Common.{◌≡◌, sym, subst, arith}
 use Rattle.pe_lines.specs.Words.{words_of, ahead_of, Between}
 use Rattle.pe_lines.proofs.Found.{joined, words_init, words_step}
 use Rattle.pe_lines.proofs.word.words_of.Goals as goal
