@@ -1,0 +1,18 @@
+use Rattle.std.proofs.Common.{◌≡◌, ◌≤◌, ◌<◌, ◌+◌, ◌-◌, ◌*◌, ◌^◌, ℕ, refl, sym, ap, ◌∙◌, arith, get_or, take, length}
+use Rattle.pe_script.specs.Numerals.{number_of}
+use Rattle.pe_session.proofs.Digits.{number-more, digit-at, power-small, power-more}
+use Rattle.pe_session.proofs.numerals.number_of.Goals as goal
+
+pub loop-digit-init : goal.loop-digit-init
+unfolding number_of
+loop-digit-init c = record { value = refl; bound = omega arith }
+
+pub loop-digit-preserved : goal.loop-digit-preserved
+loop-digit-preserved c =
+    let within = digit-at c.args.digits.now c.loop-digit.digit-index c.requires.digits c.loop-digit-test.true in
+    let small : c.from.result ≤ 9 = omega (arith, within.1, c.from.ensures) in
+    let more = number-more c.args.digits.now c.loop-digit.digit-index c.loop-digit-test.true in
+    record {
+      value = sym (more ∙ ap (λ n. 10 * n + (get_or c.args.digits.now c.loop-digit.digit-index 0 - 48)) (sym c.loop-digit.invariant.value) ∙ ap (λ b. 10 * c.loop-digit.number + b) (sym c.from.ensures));
+      bound = power-more c.loop-digit.digit-index c.loop-digit.number c.from.result c.loop-digit.invariant.bound small;
+    }

@@ -1,0 +1,5 @@
+pub mod Keeping
+pub mod Judging
+pub mod Session
+pub mod Outcome
+pub mod Words

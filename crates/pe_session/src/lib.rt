@@ -1,0 +1,14 @@
+//! A session: reads a script in pieces, answers each line, and writes the text as the lines come.
+#![tactic(auto)]
+
+mod events;
+mod judging;
+mod numerals;
+mod run;
+mod serving;
+mod session;
+mod status;
+
+pub use run::run_within;
+pub use serving::serve;
+pub use status::Status;
