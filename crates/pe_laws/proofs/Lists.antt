@@ -1,0 +1,62 @@
+-- Numbers in lists that are filtered.
+use Rattle.std.proofs.Common.{◌≡◌, ◌≢◌, ℕ, suc, Bool, true, false, not, ◌&&◌, ◌||◌, ◌==◌, List, [], ◌∷◌, length, filter, Some, None, refl, sym, ◌∙◌, ap, arith, cond}
+use Rattle.std.specs.List.{list_any}
+use Rattle.pe_rules.specs.Activation.{is_one_of}
+use Rattle.pe_rules.specs.Prompts.{first_of}
+use Rattle.pe_laws.proofs.Numbers.{not_same, same-numbers, is_same}
+
+-- both are true
+pub both : (a b : Bool) → (a && b) ≡ true → (a ≡ true) × (b ≡ true)
+both true true h = (refl, refl)
+both true false h = cc
+both false b h = cc
+
+pub or-true : (b : Bool) → (b || true) ≡ true
+or-true true = refl
+or-true false = refl
+
+-- a number of a filtered list passes the test, and is one of the list
+pub of-filtered : (test : ℕ → Bool) (xs : List ℕ) (k : ℕ) → is_one_of (filter test xs) k ≡ true → (test k ≡ true) × (is_one_of xs k ≡ true)
+of-filtered test [] k h = cc
+of-filtered test (x ∷ xs) k h = by_test (test x) refl (of-filtered test xs k) h
+  where
+    by_head : test x ≡ true → (is_one_of (filter test xs) k ≡ true → (test k ≡ true) × (is_one_of xs k ≡ true)) → (b : Bool) → (x == k) ≡ b
+        → (b || is_one_of (filter test xs) k) ≡ true → (test k ≡ true) × ((b || is_one_of xs k) ≡ true)
+    by_head passes rest true is h = (ap test (sym (same-numbers x k is)) ∙ passes, refl)
+    by_head passes rest false is h = rest h
+
+    by_test : (b : Bool) → test x ≡ b → (is_one_of (filter test xs) k ≡ true → (test k ≡ true) × (is_one_of xs k ≡ true))
+        → is_one_of (cond b (x ∷ filter test xs) (filter test xs)) k ≡ true → (test k ≡ true) × ((x == k || is_one_of xs k) ≡ true)
+    by_test true passes rest h = by_head passes rest (x == k) refl h
+    by_test false fails rest h = ((rest h).0, rw ((rest h).1) (or-true (x == k)))
+
+-- and the other way round
+pub into-filtered : (test : ℕ → Bool) (xs : List ℕ) (k : ℕ) → test k ≡ true → is_one_of xs k ≡ true → is_one_of (filter test xs) k ≡ true
+into-filtered test [] k passes h = h
+into-filtered test (x ∷ xs) k passes h = by_test (test x) refl (into-filtered test xs k passes) (x == k) refl h
+  where
+    by_test : (b : Bool) → test x ≡ b → (is_one_of xs k ≡ true → is_one_of (filter test xs) k ≡ true) → (c : Bool) → (x == k) ≡ c
+        → (c || is_one_of xs k) ≡ true → is_one_of (cond b (x ∷ filter test xs) (filter test xs)) k ≡ true
+    by_test true e rest true is h = rw is refl
+    by_test true e rest false is h = rw is (rest h)
+    by_test false e rest false is h = rest h
+    by_test false e rest true is h = let no : test k ≡ false = ap test (sym (same-numbers x k is)) ∙ e in cc
+
+-- something is left of a filtered list where some element passes
+pub left-of-filtered : (test : ℕ → Bool) (xs : List ℕ) → not (length (filter test xs) == 0) ≡ list_any test xs
+left-of-filtered test [] = refl
+left-of-filtered test (x ∷ xs) = by_test (test x) (left-of-filtered test xs)
+  where
+    by_test : (b : Bool) → not (length (filter test xs) == 0) ≡ list_any test xs → not (length (cond b (x ∷ filter test xs) (filter test xs)) == 0) ≡ (b || list_any test xs)
+    by_test true rest = let ne : suc (length (filter test xs)) ≢ 0 = omega arith in rw (not_same (suc (length (filter test xs))) 0 ne) refl
+    by_test false rest = rest
+
+-- the first of a list is one of it
+pub first-is-one : (xs : List ℕ) (k : ℕ) → first_of xs ≡ Some k → is_one_of xs k ≡ true
+first-is-one [] k h = cc
+first-is-one (x ∷ xs) k h = let is : x ≡ k = cc in rw (is, is_same k) refl
+
+-- a list without a first has none
+pub none-without-first : (xs : List ℕ) (k : ℕ) → first_of xs ≡ None → is_one_of xs k ≡ false
+none-without-first [] k h = refl
+none-without-first (x ∷ xs) k h = cc
