@@ -3,3 +3,8 @@ pub mod Texts
 pub mod Stretches
 pub mod Outcomes
 pub mod Clauses
+pub mod Older
+pub mod Crossings
+pub mod Opening
+pub mod Growing
+pub mod Replies

@@ -1,7 +1,7 @@
 -- What is kept of the accepted events, so that later lines can be judged.
 -- This project's own.
 -- Each frame of these histories is live and has the one document that was made with it, which has the frame's number.
-use Rattle.std.specs.Prelude.{◌≡◌, ℕ, ◌+◌, Bool, true, false, not, List, [], ◌∷◌, ◌++◌, length, get_or, All, Option, Some, None, option_to_list, if◌then◌else◌}
+use Rattle.std.specs.Prelude.{◌≡◌, ℕ, zero, suc, ◌+◌, ◌≤◌, Bool, true, false, not, List, [], ◌∷◌, ◌++◌, length, get_or, All, Option, Some, None, option_to_list, if◌then◌else◌}
 use Rattle.std.specs.Option.{option_or}
 use Rattle.pe_base.specs.declared.denial.Denial.{Denial}
 use Rattle.pe_features.specs.declared.feature.Feature.{Feature}
@@ -39,8 +39,10 @@ pub record IsKept (T : Told) (k : ℕ) (frame : Frame) : Type 0 where
   pub made : is_frame T k ≡ true
   pub document : last_document T k ≡ Some k
   pub current : is_current T k ≡ true
-  pub top : page T k ≡ frame.top
+  pub top : page T k ≡ frame.page + 1
+  pub below : frame.page + 1 ≤ k
   pub depth : length (chain T k) ≡ frame.depth
+  pub shallow : frame.depth ≤ 64
   pub origin : origin_of T k ≡ frame.origin
   pub flag : sandbox_flag T k ≡ false
   pub above : (before : List Link) × (links T k ≡ before ++ link T k ∷ [])
@@ -52,16 +54,28 @@ abbrev pub IsKeptAt : Told → ℕ → Option Frame → Type 0
 IsKeptAt T k None = is_frame T k ≡ false
 IsKeptAt T k (Some frame) = IsKept T k frame
 
+-- the frame of this number
+abbrev pub frame_numbered : List (Option Frame) → ℕ → Option Frame
+frame_numbered frames zero = None
+frame_numbered frames (suc i) = get_or frames i None
+
 -- the statuses that the steps made
 abbrev pub statuses_made : Told → List Status
 statuses_made T = each (λ s B. option_to_list (status_by s.event B (length (s ∷ B)))) T
 
--- what is kept of the steps: each position, the frames of each page, the pages; all of them happened at time 0, and none made a status
-pub record Keeps (events : Events) (T : Told) : Type 0 where
-  pub count : length events.frames.items ≡ length T
-  pub sized : length events.sizes.items ≡ length T
-  pub frames : (i : ℕ) → IsKeptAt T (i + 1) (get_or events.frames.items i None)
-  pub sizes : (i : ℕ) → get_or events.sizes.items i 0 ≡ length (live_frames T (i + 1))
-  pub pages : events.pages ≡ length (live_pages T)
+-- frames, sizes of pages and a count of pages are those of the steps, which all happened at time 0 and made no status
+pub record AreKept (frames : List (Option Frame)) (sizes : List ℕ) (pages : ℕ) (T : Told) : Type 0 where
+  pub count : length frames ≡ length T
+  pub few : length T ≤ 1000000
+  pub sized : length sizes ≡ length T
+  pub at : (i : ℕ) → IsKeptAt T (i + 1) (get_or frames i None)
+  pub size : (i : ℕ) → get_or sizes i 0 ≡ length (live_frames T (i + 1))
+  pub small : (i : ℕ) → get_or sizes i 0 ≤ 256
+  pub pages_are : pages ≡ length (live_pages T)
+  pub few_pages : pages ≤ 64
   pub clock_is : clock T ≡ 0
   pub statuses : statuses_made T ≡ []
+
+-- what is kept of the steps
+abbrev pub Keeps : Events → Told → Type 0
+Keeps events T = AreKept events.frames.items events.sizes.items events.pages T

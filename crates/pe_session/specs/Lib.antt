@@ -1,4 +1,5 @@
 pub mod Keeping
+pub mod Replying
 pub mod Judging
 pub mod Session
 pub mod Outcome

@@ -4,6 +4,7 @@
 mod events;
 mod judging;
 mod numerals;
+mod reply;
 mod run;
 mod serving;
 mod session;

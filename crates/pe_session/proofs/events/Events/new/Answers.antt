@@ -1,4 +1,4 @@
-use Rattle.std.proofs.Common.{◌≡◌, ℕ, [], refl, sym, ap}
+use Rattle.std.proofs.Common.{◌≡◌, ℕ, [], refl, sym, ap, arith}
 use Rattle.pe_rules.specs.History.{clock, each, newest}
 use Rattle.pe_rules.specs.Causes.{live_pages, live_frames}
 use Rattle.pe_rules.specs.Numbering.{frames_made, is_frame}
@@ -7,12 +7,15 @@ use Rattle.pe_session.proofs.events.Events.new.Goals as goal
 
 pub returns : goal.returns
 unfolding clock each newest live_pages live_frames frames_made is_frame
-returns c = record {
-  count = rw c.new.ensures.items refl;
-  sized = rw c.new-2.ensures.items refl;
-  frames = λ i. rw c.new.ensures.items refl;
-  sizes = λ i. rw c.new-2.ensures.items refl;
-  pages = refl;
+returns c = rw (c.new.ensures.items, c.new-2.ensures.items) record {
+  count = refl;
+  few = omega arith;
+  sized = refl;
+  at = λ i. refl;
+  size = λ i. refl;
+  small = λ i. omega arith;
+  pages_are = refl;
+  few_pages = omega arith;
   clock_is = refl;
   statuses = refl;
 }
