@@ -8,3 +8,4 @@ pub mod Crossings
 pub mod Opening
 pub mod Growing
 pub mod Replies
+pub mod Sayings

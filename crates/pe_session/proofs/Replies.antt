@@ -27,8 +27,9 @@ use Rattle.pe_rules.specs.Replies.{answer_of, new_origin, by_denial}
 use Rattle.pe_laws.proofs.Numbers.{not_same, is_same}
 use Rattle.pe_session.specs.declared.events.Events.{Events}
 use Rattle.pe_session.specs.declared.events.Frame.{Frame}
+use Rattle.pe_session.specs.declared.reply.Reply.{Reply}
 use Rattle.pe_session.specs.Keeping.{IsKept, IsKeptAt, AreKept, Keeps, frame_numbered, first_crossing}
-use Rattle.pe_session.specs.Replying.{step_of, told_reply, denied_at, policy_reply, child_origin, crossing_below, IsRefusal, IsAcceptance}
+use Rattle.pe_session.specs.Replying.{step_of, told_reply, denied_at, policy_reply, child_origin, crossing_below, IsRefusal, IsAcceptance, IsReply}
 use Rattle.pe_session.proofs.Older.{IsQuiet, quiet-open, quiet-embed, quiet-policy}
 use Rattle.pe_session.proofs.Crossings.{denial_at, first-own, first-any}
 use Rattle.pe_session.proofs.Opening.{embedding, kept-page, origin-page, kept-child, origin-child}
@@ -103,7 +104,7 @@ policy-none T frame name row f d room at w named default =
 frame-zero : (T : Told) → is_frame T 0 ≡ false
 unfolding is_frame newest
 frame-zero [] = refl
-frame-zero (s ∷ T) = frame-zero T
+frame-zero (s ∷ T) = let ne : 0 ≢ suc (length T) = omega arith in rw (not_same 0 (suc (length T)) ne) (frame-zero T)
 
 frame-beyond : (T : Told) (k : ℕ) → length T < k → is_frame T k ≡ false
 unfolding is_frame newest
@@ -317,3 +318,17 @@ policy-accepted duration T old new k name row f d h few e named default frames s
       kept = λ item. rw (frames, sizes, pages) (keep-none old.frames.items old.sizes.items (old.sizes.items ++ 0 ∷ []) old.pages (event.PolicyOf k name) item T h (quiet-policy k name) refl below
           (frame-policy T k name item) (omega (arith, h.sized, length_push old.sizes.items 0)) (push-zero old.sizes.items));
     }
+
+-- the reply that `policy` gives
+pub policy-replied : (duration : ℕ) (T : Told) (events : Events) (e : Event) (c : Option ℕ) (d : DefaultList) (reply : Reply) → reply ≡ policy_reply c d
+    → IsAcceptance duration T e events (told_reply (policy_reply c d)) → IsReply duration T e events reply
+policy-replied duration T events e c Any reply is done = rw is done
+policy-replied duration T events e None OwnOrigin reply is done = rw is done
+policy-replied duration T events e (Some at) OwnOrigin reply is done = rw is done
+
+pub named-feature : (name : List ℕ) (d : DefaultList) → option_and_then default_of (feature_named name) ≡ Some d → (f : Feature) × (feature_named name ≡ Some f) × (default_of f ≡ Some d)
+named-feature name d e = by_name (feature_named name) refl e
+  where
+    by_name : (o : Option Feature) → feature_named name ≡ o → option_and_then default_of o ≡ Some d → (f : Feature) × (feature_named name ≡ Some f) × (default_of f ≡ Some d)
+    by_name None is e = cc
+    by_name (Some f) is e = (f, is, e)

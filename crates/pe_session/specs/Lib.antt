@@ -1,3 +1,4 @@
+pub mod Saying
 pub mod Keeping
 pub mod Replying
 pub mod Judging

@@ -13,6 +13,7 @@ ghost use Rattle.std.specs.Prelude.{
   None,
   Option,
   option_map,
+  option_and_then,
   IfOk,
   IfSome,
   IfNone,
@@ -22,7 +23,6 @@ ghost use Rattle.std.specs.Prelude.{
   false,
   get_or,
 };
-ghost use Rattle.pe_features.specs.declared.feature.Feature.{Feature};
 ghost use Rattle.pe_features.specs.Features.{feature_named};
 ghost use Rattle.pe_rules.specs.Origins.{origin_of_place, is_blank_kind};
 ghost use Rattle.pe_session.specs.Replying.{child_origin, child_crossing, policy_reply};
@@ -83,11 +83,11 @@ fn is_blank(place: &Place) -> bool
 }
 
 /// Counts one more frame of a page.
-fn count_one(sizes: &mut [u32], page: usize)
-    requires { get_or sizes.old page 0 < 2 ^ 32 - 1 }
-    ensures len { length sizes.new ≡ length sizes.old }
-    ensures grown { page < length sizes.old → get_or sizes.new page 0 ≡ get_or sizes.old page 0 + 1 }
-    ensures others { (i : ℕ) → i ≢ page → get_or sizes.new i 0 ≡ get_or sizes.old i 0 }
+fn count_one(sizes: &mut Vec<u32>, page: usize)
+    requires { get_or sizes.old.items page 0 < 2 ^ 32 - 1 }
+    ensures len { length sizes.new.items ≡ length sizes.old.items }
+    ensures grown { page < length sizes.old.items → get_or sizes.new.items page 0 ≡ get_or sizes.old.items page 0 + 1 }
+    ensures others { (i : ℕ) → i ≢ page → get_or sizes.new.items i 0 ≡ get_or sizes.old.items i 0 }
 {
     if page < sizes.len() {
         sizes[page] += 1;
@@ -223,7 +223,7 @@ impl Events {
         let origin = origin_of_place(place, number);
         let answer = origin.copy()?;
         let frame = Frame {
-            page: self.frames.len(),
+            page: number as usize - 1,
             depth: 1,
             origin,
             crossing: None,
@@ -284,8 +284,7 @@ impl Events {
 
     /// `policy F FEATURE` at time 0, of a feature with this default allowlist.
     pub fn policy(&mut self, number: u32, default: DefaultList) -> Result<Reply, AllocError>
-        ensures { (duration : ℕ) (T : Told) (name : List ℕ) (feature : Feature) → Keeps self.old T
-            → feature_named name ≡ Some feature → default_of feature ≡ Some default
+        ensures { (duration : ℕ) (T : Told) (name : List ℕ) → Keeps self.old T → option_and_then default_of (feature_named name) ≡ Some default
             → IfOk result (IsReply duration T (event.PolicyOf number name) self.new) }
     {
         let Some(_) = self.next_number() else {

@@ -4,6 +4,7 @@
 mod events;
 mod judging;
 mod numerals;
+mod reading;
 mod reply;
 mod run;
 mod serving;

@@ -34,21 +34,21 @@ fn is_positive(digits: &[u8]) -> bool
 }
 
 /// The number that so few digits write.
-fn number_of(digits: &[u8]) -> u64
+fn number_of(digits: &[u8]) -> u32
     requires digits { list_all is_digit digits.now ≡ true }
     requires few { length digits.now ≤ 7 }
     ensures { result ≡ number_of digits.now }
 {
     let mut number = 0;
     for digit in digits {
-        number = 10 * number + u64::from(*digit - b'0');
+        number = 10 * number + u32::from(*digit - b'0');
     }
     number
 }
 
 /// The number above 0 that at most so many decimal digits write, without a leading zero.
 #[tactic(auto, using(crate::proofs::Digits::all_digits), unfolding(pe_script::specs::Numerals::positive))]
-pub fn positive(digits: &[u8], most: usize) -> Option<u64>
+pub fn positive(digits: &[u8], most: usize) -> Option<u32>
     requires { most ≤ 7 }
     ensures { result ≡ positive most digits.now }
 {

@@ -69,7 +69,9 @@ fn put_words(alloc: Global, reply: &Reply, out: &mut Vec<u8>) -> Result<(), Allo
         Reply::FrameMade { number, origin } => {
             let made = format!(in alloc; "frame f{number} doc d{number} ")?;
             out.extend_from_slice(made.as_bytes())?;
-            out.extend_from_slice(&origin_text(alloc, origin)?)
+            let origin = origin_text(alloc, origin)?;
+            out.extend_from_slice(&origin)?;
+            Ok(())
         }
         Reply::Allowed => out.extend_from_slice(b"allowed"),
         Reply::Denied { at } => {

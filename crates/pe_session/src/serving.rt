@@ -40,10 +40,10 @@ fn duration_of(word: &str) -> Option<u32>
     ensures range { IfSome result (λ ms. (1 ≤ ms) × (ms ≤ 60000)) }
 {
     let ms = positive(word.as_bytes(), 5)?;
-    if ms < 1 || ms > u64::from(DURATION_LIMIT) {
+    if ms < 1 || ms > DURATION_LIMIT {
         return None;
     }
-    Some(ms as u32)
+    Some(ms)
 }
 
 /// The duration that the words ask a run with.

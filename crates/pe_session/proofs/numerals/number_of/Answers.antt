@@ -16,3 +16,14 @@ loop-digit-preserved c =
       value = sym (more ∙ ap (λ n. 10 * n + (get_or c.args.digits.now c.loop-digit.digit-index 0 - 48)) (sym c.loop-digit.invariant.value) ∙ ap (λ b. 10 * c.loop-digit.number + b) (sym c.from.ensures));
       bound = power-more c.loop-digit.digit-index c.loop-digit.number c.from.result c.loop-digit.invariant.bound small;
     }
+
+pub overflow_mul-number : goal.overflow_mul-number
+overflow_mul-number c =
+    let few : c.loop-digit.digit-index ≤ 6 = omega (arith, c.loop-digit-test.true, c.requires.few) in
+    omega (arith, c.loop-digit.invariant.bound, power-small c.loop-digit.digit-index few)
+
+pub overflow_add-number : goal.overflow_add-number
+overflow_add-number c =
+    let within = digit-at c.args.digits.now c.loop-digit.digit-index c.requires.digits c.loop-digit-test.true in
+    let few : c.loop-digit.digit-index ≤ 6 = omega (arith, c.loop-digit-test.true, c.requires.few) in
+    omega (arith, c.loop-digit.invariant.bound, power-small c.loop-digit.digit-index few, within.1, c.from.ensures)
