@@ -9,3 +9,4 @@ pub mod Opening
 pub mod Growing
 pub mod Replies
 pub mod Sayings
+pub mod Judgings

@@ -1,7 +1,8 @@
 -- What the words of a line say, in the forms that are built.
-use Rattle.std.proofs.Common.{◌≡◌, ◌≢◌, ℕ, suc, ◌+◌, ◌<◌, ◌≤◌, Bool, true, false, not, ◌&&◌, ◌||◌, ◌==◌, List, [], ◌∷◌, length, drop, get_or, Option, Some, None, is_some, unwrap_or, option_map, option_and_then, refl, sym, ◌∙◌, ap, arith, cond, codes, bytes_eq, if◌then◌else◌}
+use Rattle.std.proofs.Common.{◌≡◌, ◌≢◌, ℕ, suc, ◌+◌, ◌<◌, ◌≤◌, Bool, true, false, not, ◌&&◌, ◌||◌, ◌==◌, List, [], ◌∷◌, length, drop, get_or, Option, Some, None, is_some, unwrap_or, option_map, option_and_then, refl, sym, ◌∙◌, ap, arith, cond, codes, bytes_eq, if◌then◌else◌, add-one}
 use Rattle.std.specs.List.{list_all}
 use Rattle.std.proofs.Math.Seq.{drop-cons}
+use Rattle.std.proofs.lemmas.List.{drop_all}
 use Rattle.std.proofs.lemmas.Slice.Eq.{bytes_eq-Decides}
 use Rattle.pe_features.specs.declared.feature.DefaultList.{DefaultList}
 use Rattle.pe_features.specs.Features.{feature_named, default_of}
@@ -171,3 +172,23 @@ reading-of-silent line silent = rw silent refl
 pub reading-of-too-long : reading_built None ≡ Refusal cause.LineTooLong
 unfolding reading_built
 reading-of-too-long = refl
+
+-- ---- a line that is silent, byte by byte
+
+silent-blank : (b : ℕ) (line : List ℕ) → is_blank b ≡ true → is_silent (b ∷ line) ≡ is_silent line
+unfolding is_blank_line is_comment
+silent-blank b line e = rw e refl
+
+silent-other : (b : ℕ) (line : List ℕ) → is_blank b ≡ false → is_silent (b ∷ line) ≡ (b == 35)
+unfolding is_blank_line is_comment
+silent-other b line e = rw e refl
+
+pub silent-end : (line : List ℕ) (i : ℕ) → length line ≤ i → is_silent (drop i line) ≡ true
+unfolding is_blank_line is_comment
+silent-end line i h = rw (drop_all i line h) refl
+
+pub silent-more : (line : List ℕ) (i : ℕ) → i < length line → is_blank (get_or line i 0) ≡ true → is_silent (drop i line) ≡ is_silent (drop (i + 1) line)
+silent-more line i h e = rw (drop-cons line i 0 h) (silent-blank (get_or line i 0) (drop (suc i) line) e ∙ ap (λ n. is_silent (drop n line)) (sym (add-one i)))
+
+pub silent-here : (line : List ℕ) (i : ℕ) → i < length line → is_blank (get_or line i 0) ≡ false → is_silent (drop i line) ≡ (get_or line i 0 == 35)
+silent-here line i h e = rw (drop-cons line i 0 h) (silent-other (get_or line i 0) (drop (suc i) line) e)

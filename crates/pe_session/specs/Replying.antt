@@ -11,6 +11,8 @@ use Rattle.pe_origin.specs.Origins.{is_same_origin}
 use Rattle.pe_events.specs.declared.answer.Answer.{Answer}
 use Rattle.pe_events.specs.declared.answer.Answer.TheVariants as answer
 use Rattle.pe_events.specs.declared.cause.Cause.{Cause}
+use Rattle.pe_events.specs.declared.cause.Cause.TheVariants as cause
+use Rattle.pe_script.specs.Reading.{Reading, Silent, Refusal, Says}
 use Rattle.pe_events.specs.declared.event.Event.{Event}
 use Rattle.pe_events.specs.declared.reason.Reason.TheVariants as reason
 use Rattle.pe_rules.specs.History.{Item, Step, Told}
@@ -79,3 +81,14 @@ IsReply duration T e events (Refused why) = IsRefusal T e events why
 IsReply duration T e events (FrameMade number origin) = IsAcceptance duration T e events (answer.FrameMade number number origin)
 IsReply duration T e events Allowed = IsAcceptance duration T e events answer.Allowed
 IsReply duration T e events (Denied at) = IsAcceptance duration T e events (answer.Denied (reason.Policy (record { rule = rule.Default; at = at })))
+
+-- the reply to words that say this event, or none that is built
+abbrev pub AnswersWords : ℕ → Told → Option Event → Events → Reply → Type 0
+AnswersWords duration T None events reply = (reply ≡ Refused cause.Syntax) × Keeps events T
+AnswersWords duration T (Some e) events reply = IsReply duration T e events reply
+
+-- the reply to a line of this reading that is not silent
+abbrev pub AnswersReading : ℕ → Told → Reading → Events → Reply → Type 0
+AnswersReading duration T Silent events reply = ⊥
+AnswersReading duration T (Refusal why) events reply = (reply ≡ Refused why) × Keeps events T
+AnswersReading duration T (Says e) events reply = (e.time ≡ 0) × IsReply duration T e.event events reply
