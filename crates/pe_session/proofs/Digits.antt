@@ -42,6 +42,7 @@ digit-at (b ∷ digits) i h within = by_first (is_digit b) refl h (λ j rest bel
         → (48 ≤ get_or (b ∷ digits) j 0) × (get_or (b ∷ digits) j 0 ≤ 57)
     by_place zero e d rest later = digit-low b d
     by_place (suc j) e d rest later = later j rest (omega arith)
+
     by_first : (f : Bool) → is_digit b ≡ f → (f && list_all is_digit digits) ≡ true
         → ((k : ℕ) → list_all is_digit digits ≡ true → k < length digits → (48 ≤ get_or digits k 0) × (get_or digits k 0 ≤ 57))
         → (48 ≤ get_or (b ∷ digits) i 0) × (get_or (b ∷ digits) i 0 ≤ 57)

@@ -102,6 +102,7 @@ three-ways i n P below same above = by_below (nat_lt i n) refl
     by_same : (b : Bool) → (i == n) ≡ b → (nat_lt i n ≡ false) → P
     by_same true e low = same (grind (arith, nat_tests))
     by_same false e low = above (grind (arith, nat_tests))
+
     by_below : (b : Bool) → nat_lt i n ≡ b → P
     by_below true e = below (grind (arith, nat_tests))
     by_below false e = by_same (i == n) refl e
@@ -122,14 +123,15 @@ pub at-step : (frames : List (Option Frame)) (o : Option Frame) (s : Step) (T : 
 at-step frames o s T q count at new i =
     three-ways i (length frames) (IsKeptAt (s ∷ T) (i + 1) (get_or (frames ++ o ∷ []) i None))
     (λ below. let within : i + 1 ≤ length T = omega arith in
-        rw (get_or_append_left frames (o ∷ []) None i below) (kept-at-older s T (i + 1) (get_or frames i None) q within (at i)))
+    rw (get_or_append_left frames (o ∷ []) None i below) (kept-at-older s T (i + 1) (get_or frames i None) q within (at i)))
     (λ same. let here : suc (length T) ≡ i + 1 = omega arith in let len : length frames ≡ i = sym same in
-        rw (get_or_at frames o [] None i len) (subst (λ k. IsKeptAt (s ∷ T) k o) here new))
+    rw (get_or_at frames o [] None i len) (subst (λ k. IsKeptAt (s ∷ T) k o) here new))
     (λ above. let ne : i + 1 ≢ suc (length T) = omega arith in
-        rw (past i above) (is-frame-older s T (i + 1) ne ∙ subst (λ x. IsKeptAt T (i + 1) x) (beyond i above) (at i)))
+    rw (past i above) (is-frame-older s T (i + 1) ne ∙ subst (λ x. IsKeptAt T (i + 1) x) (beyond i above) (at i)))
   where
     past : (j : ℕ) → length frames < j → get_or (frames ++ o ∷ []) j None ≡ None
     past j h = get_or-beyond (frames ++ o ∷ []) j (omega (arith, length_push frames o))
+
     beyond : (j : ℕ) → length frames < j → get_or frames j None ≡ None
     beyond j h = get_or-beyond frames j (omega arith)
 
@@ -153,7 +155,7 @@ push-other xs x i ne = three-ways i (length xs) (get_or (xs ++ x ∷ []) i 0 ≡
     (λ below. get_or_append_left xs (x ∷ []) 0 i below)
     (λ same. absurd (ne same))
     (λ above. let past : length (xs ++ x ∷ []) ≤ i = omega (arith, length_push xs x) in let beyond : length xs ≤ i = omega arith in
-        zero-beyond (xs ++ x ∷ []) i past ∙ sym (zero-beyond xs i beyond))
+    zero-beyond (xs ++ x ∷ []) i past ∙ sym (zero-beyond xs i beyond))
 
 pub push-zero : (xs : List ℕ) (i : ℕ) → get_or (xs ++ 0 ∷ []) i 0 ≡ get_or xs i 0
 push-zero xs i = three-ways i (length xs) (get_or (xs ++ 0 ∷ []) i 0 ≡ get_or xs i 0)

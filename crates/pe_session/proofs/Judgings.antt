@@ -59,8 +59,12 @@ text-accepted : (duration number : ℕ) (H : History) (e : Event) (said : Answer
     → event_text duration number H (at_zero e) ≡ answer_text number said
 unfolding event_text accepted_text
 text-accepted duration number H e said old h c a =
-    rw (accepted-is (told duration H) e c, no-changes-before (told duration H) h.clock_is, reply-accepted duration (told duration H) e said c a,
-    no-changes-after (told duration H) (told duration (at_zero e ∷ H)) old h) (append-nil (answer_text number said))
+    rw (
+      accepted-is (told duration H) e c,
+      no-changes-before (told duration H) h.clock_is,
+      reply-accepted duration (told duration H) e said c a,
+      no-changes-after (told duration H) (told duration (at_zero e ∷ H)) old h,
+    ) (append-nil (answer_text number said))
 
 text-refused : (duration number : ℕ) (H : History) (e : Event) (why : Cause) → cause_of (told duration H) 0 e ≡ Some why → event_text duration number H (at_zero e) ≡ answer_text number (answer.Refused why)
 unfolding event_text

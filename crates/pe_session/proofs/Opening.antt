@@ -38,7 +38,11 @@ page_making url T = record { frame = length T + 1; url = url; header = None; emb
 -- the making of an embedded document
 abbrev pub child_making : ℕ → List ℕ → Told → Making
 child_making parent url T = record {
-  frame = length T + 1; url = url; header = None; embedder = last_document T parent; srcdoc = false;
+  frame = length T + 1;
+  url = url;
+  header = None;
+  embedder = last_document T parent;
+  srcdoc = false;
   attributes = record { src = Some url; srcdoc = false; allow = None; sandbox = None; fullscreen = false };
 }
 
@@ -215,6 +219,7 @@ links-child T parent url item row w h =
     let s = step_of (embedding parent url) item in
     of-chain (s ∷ T) (suc (length T)) (chain T parent) (chain-child T parent url item w.document)
     ∙ ap (λ l. l ++ link (s ∷ T) (suc (length T)) ∷ []) (sym (of-older (s ∷ T) parent (chain T parent) (chain-older s T parent h)) ∙ links-older s T parent h)
+
 below-is : (a : Option ℕ) (embedder own : Origin) (k : ℕ) → option_or a (when (not (is_same_origin own embedder)) k) ≡ crossing_below a embedder k own
 below-is (Some at) embedder own k = refl
 below-is None embedder own k = by_test (is_same_origin own embedder)

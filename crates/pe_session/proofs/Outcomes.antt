@@ -21,10 +21,11 @@ prefix-trans a b c (r, e) (s, f) = (r ++ s, f ∙ ap (λ l. l ++ s) e ∙ append
 
 -- the text of some lines is a front of that of these lines and others
 text-front : (duration : ℕ) (before added all : List (Option (List ℕ))) → all ≡ before ++ added → IsPrefix (text_from duration 1 [] (readings before)) (text_from duration 1 [] (readings all))
-text-front duration before added all e =
-    (text_from duration (1 + length (readings before)) (history_after_lines duration [] (readings before)) (readings added),
-    ap (λ ls. text_from duration 1 [] (readings ls)) e ∙ ap (text_from duration 1 []) (map-append reading_built before added)
-    ∙ text-append duration 1 (1 + length (readings before)) [] (readings before) (readings added) refl)
+text-front duration before added all e = (
+  text_from duration (1 + length (readings before)) (history_after_lines duration [] (readings before)) (readings added),
+  ap (λ ls. text_from duration 1 [] (readings ls)) e ∙ ap (text_from duration 1 []) (map-append reading_built before added)
+      ∙ text-append duration 1 (1 + length (readings before)) [] (readings before) (readings added) refl,
+)
 
 -- the text of the lines that ended is a front of the same of more bytes, and of all lines of more bytes
 pub ended-grows : LinesStay → (duration : ℕ) (xs ys : List ℕ) → IsPrefix (built_ended_text duration xs) (built_ended_text duration (xs ++ ys))

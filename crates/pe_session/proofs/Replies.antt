@@ -85,8 +85,17 @@ embed-none : (T : Told) (parent : ℕ) (url : List ℕ) (row : Frame) (p : Place
     → length (live_frames T (row.page + 1)) ≢ 256 → cause_of T 0 (embedding parent url) ≡ None
 unfolding cause_of names_unknown names_settled names_closed names_not_shown has_bad_url has_bad_feature has_bad_call has_bad_capability names_other_page exceeds_pages exceeds_depth exceeds_frames exceeds_statuses exceeds_pending exceeds_store setting_by
 embed-none T parent url row p room at w place shallow few =
-    rw (not_same (length T) 1000000 room, at, w.made, live-kept T parent row w, place, depth-kept T parent row w, not_same row.depth 64 shallow, page-kept T parent row w,
-    not_same (length (live_frames T (row.page + 1))) 256 few) refl
+    rw (
+      not_same (length T) 1000000 room,
+      at,
+      w.made,
+      live-kept T parent row w,
+      place,
+      depth-kept T parent row w,
+      not_same row.depth 64 shallow,
+      page-kept T parent row w,
+      not_same (length (live_frames T (row.page + 1))) 256 few,
+    ) refl
 
 policy-unknown : (T : Told) (frame : ℕ) (name : List ℕ) → length T ≢ 1000000 → clock T ≡ 0 → is_frame T frame ≡ false → cause_of T 0 (event.PolicyOf frame name) ≡ Some cause.Unknown
 unfolding cause_of names_unknown
@@ -179,7 +188,7 @@ open-accepted duration T old new url p number o h few at_number place room_pages
       answer_is = answer-open duration T url number o n same;
       kept = λ item.
           let row : IsKept (step_of (page_event url) item ∷ T) (suc (length T)) (record { page = length old.frames.items; depth = 1; origin = o; crossing = None })
-              = subst (λ q. IsKept (step_of (page_event url) item ∷ T) (suc (length T)) (record { page = q; depth = 1; origin = o; crossing = None })) (sym h.count) (kept-page T url item o same) in
+          = subst (λ q. IsKept (step_of (page_event url) item ∷ T) (suc (length T)) (record { page = q; depth = 1; origin = o; crossing = None })) (sym h.count) (kept-page T url item o same) in
           rw (frames, sizes, pages) (keep-frame old.frames.items old.sizes.items (old.sizes.items ++ 1 ∷ []) old.pages (old.pages + 1) (page_event url) item T _ h (quiet-open url) refl below row
           (omega (arith, h.sized, length_push old.sizes.items 1))
           (λ i e. let end : i ≡ length old.sizes.items = omega (arith, h.sized, h.count) in push-at old.sizes.items 1 i end)
@@ -263,7 +272,7 @@ embed-accepted duration T old new parent url row p number depth o at sizes h few
     let n : number ≡ suc (length T) = omega (arith, h.count) in
     let there : row.page < length old.sizes.items = omega (arith, w.below, h.sized) in
     let same : o ≡ child_origin row.origin (suc (length T)) (place_or_none url)
-        = is ∙ ap (λ k. child_origin row.origin k p) n ∙ ap (child_origin row.origin (suc (length T))) (sym (place-is url p place)) in
+    = is ∙ ap (λ k. child_origin row.origin k p) n ∙ ap (child_origin row.origin (suc (length T))) (sym (place-is url p place)) in
     let crossed : at ≡ crossing_below row.crossing row.origin (suc (length T)) o = crosses ∙ ap (λ k. crossing_below row.crossing row.origin k o) n in
     record {
       cause = embed-none T parent url row p room h.clock_is w place deep few_frames;

@@ -93,7 +93,7 @@ pub piece-went : (duration n : ℕ) (events : Events) (taken piece old new : Lis
     → Went duration events n (history_after_lines duration [] (readings (told_ended_lines taken))) old new was refused done
     → old ≡ [] → was ≡ refuses_from duration [] (readings (told_ended_lines taken))
     → Stands duration events (history_after_lines duration [] (readings (told_ended_lines (taken ++ piece))))
-      × Adds duration taken piece new × (refused ≡ refuses_from duration [] (readings (told_ended_lines (taken ++ piece))))
+    × Adds duration taken piece new × (refused ≡ refuses_from duration [] (readings (told_ended_lines (taken ++ piece))))
 unfolding built_ended_text
 piece-went duration n events taken piece old new was refused done e at_line w empty flag =
     let before = told_ended_lines taken in
@@ -101,9 +101,10 @@ piece-went duration n events taken piece old new was refused done e at_line w em
     let line : n ≡ 1 + length (readings before) = rw (length-readings before) at_line in
     let G = history_after_lines duration [] (readings before) in
     rw split (
-    rw (history-append duration [] (readings before) (readings done)) w.stands,
-    text-append duration 1 n [] (readings before) (readings done) line ∙ ap (λ t. text_from duration 1 [] (readings before) ++ t) (sym (w.text ∙ ap (λ t. t ++ text_from duration n G (readings done)) empty)),
-    w.refused_is ∙ ap (λ r. r || refuses_from duration G (readings done)) flag ∙ sym (refuses-append duration [] (readings before) (readings done)))
+      rw (history-append duration [] (readings before) (readings done)) w.stands,
+      text-append duration 1 n [] (readings before) (readings done) line ∙ ap (λ t. text_from duration 1 [] (readings before) ++ t) (sym (w.text ∙ ap (λ t. t ++ text_from duration n G (readings done)) empty)),
+      w.refused_is ∙ ap (λ r. r || refuses_from duration G (readings done)) flag ∙ sym (refuses-append duration [] (readings before) (readings done)),
+    )
 
 -- ---- the last line
 
@@ -120,10 +121,11 @@ last-some duration n events taken old new out text line was refused now h t at_l
     let split : readings (told_lines taken) ≡ readings before ++ r ∷ [] = ap readings (Cuts-last taken before old new line h t) ∙ map-append reading_built before (line ∷ []) in
     let later : n ≡ 1 + length (readings before) = rw (length-readings before) at_line in
     rw split (
-    text-append duration 1 n [] (readings before) (r ∷ []) later
-        ∙ ap (λ x. text_from duration 1 [] (readings before) ++ x) (text-one duration n G r ∙ sym (j.text ∙ ap (λ o. o ++ line_text duration n G r) empty)),
-    is ∙ ap (λ b. b || refused) flag ∙ ap (λ b. refuses_from duration [] (readings before) || b) (j.refused_is ∙ sym (refuses-one duration G r))
-        ∙ sym (refuses-append duration [] (readings before) (r ∷ [])))
+      text-append duration 1 n [] (readings before) (r ∷ []) later
+          ∙ ap (λ x. text_from duration 1 [] (readings before) ++ x) (text-one duration n G r ∙ sym (j.text ∙ ap (λ o. o ++ line_text duration n G r) empty)),
+      is ∙ ap (λ b. b || refused) flag ∙ ap (λ b. refuses_from duration [] (readings before) || b) (j.refused_is ∙ sym (refuses-one duration G r))
+          ∙ sym (refuses-append duration [] (readings before) (r ∷ [])),
+    )
 
 pub last-none : (duration : ℕ) (taken old out : List ℕ) (was : Bool) → Cuts taken (told_ended_lines taken) old → old ≡ [] → out ≡ [] → was ≡ refuses_from duration [] (readings (told_ended_lines taken))
     → AddsLast duration taken out × (was ≡ built_refuses duration taken)

@@ -14,3 +14,6 @@ mod status;
 pub use run::run_within;
 pub use serving::serve;
 pub use status::Status;
+
+#[cfg(test)]
+mod tests;

@@ -21,9 +21,14 @@ use pe_lines::Word;
 #[derive(Clone, Copy)]
 pub enum Said<'a> {
     /// `open URL`.
-    Open { url: &'a [u8] },
+    Open {
+        url: &'a [u8],
+    },
     /// `embed F URL`.
-    Embed { parent: u32, url: &'a [u8] },
+    Embed {
+        parent: u32,
+        url: &'a [u8],
+    },
     /// `policy F FEATURE`, of a feature with this default allowlist.
     Policy {
         frame: u32,
@@ -91,11 +96,7 @@ fn default_word(word: &Word<'_>) -> Option<DefaultList>
 }
 
 /// What is said behind the time, by a verb and two words.
-fn read_on_frame<'a>(
-    verb: &Word<'_>,
-    frame: &Word<'_>,
-    last: &'a Word<'_>,
-) -> Option<Said<'a>>
+fn read_on_frame<'a>(verb: &Word<'_>, frame: &Word<'_>, last: &'a Word<'_>) -> Option<Said<'a>>
     ensures said { option_map event_said result ≡ event_on_frame verb.now frame.now last.now }
     ensures feature { IfSome result HasFeature }
 {

@@ -92,8 +92,8 @@ pub fn serve<S: Source, K: Sink>(
     // The same by the script, where the source tells it.
     ensures whole { (duration : ℕ) → duration_asked (map string_bytes words.now) ≡ Some duration → IsWholeStatus result →
         IfSome (S.left source.old) (λ script. (length script ≤ 1073741824)
-            × Appends (K.written sink.old) (K.written sink.new) (built_text duration script)
-            × (built_refuses duration script ≡ says_refused result)) }
+        × Appends (K.written sink.old) (K.written sink.new) (built_text duration script)
+        × (built_refuses duration script ≡ says_refused result)) }
     ensures cut_short { (duration : ℕ) → duration_asked (map string_bytes words.now) ≡ Some duration → IsCutStatus result →
         IfSome (S.left source.old) (λ script. AppendsPrefix (K.written sink.old) (K.written sink.new) (built_text duration script)) }
     ensures complete { (duration : ℕ) → duration_asked (map string_bytes words.now) ≡ Some duration →

@@ -71,7 +71,7 @@ impl Session {
             × (told_ended_lines self.new.cutter.bytes ≡ [])
             × (self.new.number ≡ self.old.number + length done)
             × ((duration : ℕ) (H : History) → Stands duration self.old.events H
-                → Went duration self.new.events self.old.number H self.old.out.items self.new.out.items self.old.refused self.new.refused done)) }
+            → Went duration self.new.events self.old.number H self.old.out.items self.new.out.items self.old.refused self.new.refused done)) }
     {
         while let Some(line) = self.cutter.next_line() {
             let refused = judge(&mut self.events, self.number, line, &mut self.out)?;
@@ -92,7 +92,7 @@ impl Session {
         ensures memory { IsErrOf result Stop.Memory → sink.new ≡ sink.old }
         ensures write { IsErrOf result Stop.Write → (K.faults sink.old < K.faults sink.new)
             × ((duration : ℕ) (taken : List ℕ) → IsAt duration self.old taken → ((text : List ℕ) × (rest : List ℕ)
-                × Adds duration taken piece.now (text ++ rest) × Appends (K.written sink.old) (K.written sink.new) text)) }
+            × Adds duration taken piece.now (text ++ rest) × Appends (K.written sink.old) (K.written sink.new) text)) }
     {
         let Ok(()) = self.cutter.feed(piece) else {
             return Err(Stop::Memory);
@@ -134,7 +134,7 @@ impl Session {
         ensures memory { IsErrOf result Stop.Memory → sink.new ≡ sink.old }
         ensures write { IsErrOf result Stop.Write → (K.faults sink.old < K.faults sink.new)
             × ((duration : ℕ) (taken : List ℕ) → IsAt duration self.old taken → ((text : List ℕ) × (rest : List ℕ)
-                × AddsLast duration taken (text ++ rest) × Appends (K.written sink.old) (K.written sink.new) text)) }
+            × AddsLast duration taken (text ++ rest) × Appends (K.written sink.old) (K.written sink.new) text)) }
     {
         let Ok(()) = self.judge_last() else {
             return Err(Stop::Memory);

@@ -15,5 +15,5 @@ returns c = λ duration T name h named.
     let (number, few) = c.in-Some.ensures.some in
     let (feature, found, default) = named-feature name c.args.default named in
     let done = policy-accepted duration T c.args.self.now c.keep.new.self _ name c.in-Some-frame.frame.now feature c.args.default h (omega arith) (sym c.in-Some-frame.ensures) found default
-        c.in_ok-keep.ensures.frames c.in_ok-keep.ensures.sizes c.keep.ensures.pages in
+    c.in_ok-keep.ensures.frames c.in_ok-keep.ensures.sizes c.keep.ensures.pages in
     policy-replied duration T _ _ _ _ _ c.policy-reply.ensures done

@@ -16,7 +16,11 @@ loop-line-preserved c =
     record {
       open_still = open_still;
       room = omega (arith, took.fewer, c.loop-line.invariant.room);
-      went = (done ++ told c.in-Some.line ∷ [], Cuts-join _ done _ _ _ cuts took, omega (arith, number, length_push done (told c.in-Some.line)),
+      went = (
+        done ++ told c.in-Some.line ∷ [],
+        Cuts-join _ done _ _ _ cuts took,
+        omega (arith, number, length_push done (told c.in-Some.line)),
         λ duration H h. Went-more duration _ _ _ _ H _ _ _ _ _ _ _ done _ number (went duration H h)
-          (c.in_ok-refused.ensures.ok duration (history_after_lines duration H (readings done)) (went duration H h).stands) refl);
+            (c.in_ok-refused.ensures.ok duration (history_after_lines duration H (readings done)) (went duration H h).stands) refl,
+      );
     }

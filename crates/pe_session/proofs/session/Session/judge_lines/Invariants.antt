@@ -12,7 +12,7 @@ invariant-loop-line l = record {
   went : (done : List (Option (List ℕ))) × Cuts l.fn.self.cutter.bytes done l.self.cutter.bytes
       × (l.self.number ≡ l.fn.self.number + length done)
       × ((duration : ℕ) (H : History) → Stands duration l.fn.self.events H
-          → Went duration l.self.events l.fn.self.number H l.fn.self.out.items l.self.out.items l.fn.self.refused l.self.refused done);
+      → Went duration l.self.events l.fn.self.number H l.fn.self.out.items l.self.out.items l.fn.self.refused l.self.refused done);
 }
 
 abbrev pub decreases-loop-line : goal.decreases-loop-line
