@@ -1,10 +1,10 @@
 -- What a run has written, by the script that the source told.
-use Rattle.std.proofs.Common.{◌≡◌, ◌≢◌, ℕ, ◌+◌, ◌<◌, ◌≤◌, ◌⊎◌, Bool, List, [], ◌++◌, Option, Some, None, IfSome, length, sym, ap, ◌∙◌, refl, append-nil, subst, inl, inr, arith, length-append}
+use Rattle.std.proofs.Common.{◌≡◌, ◌≢◌, ℕ, ◌<◌, ◌≤◌, ◌⊎◌, Bool, List, ◌++◌, Option, Some, None, IfSome, length, ap, ◌∙◌, refl, append-nil, subst, inl, inr, arith, length-append}
 use Rattle.std.specs.Io.KnownBytes.{Appends, Consumes, IsAtEnd}
 use Rattle.pe_output.specs.Built.{built_text, built_refuses}
 use Rattle.pe_session.specs.declared.status.Status.{Status}
 use Rattle.pe_session.specs.declared.status.Status.TheVariants.{Clean, Refusals, Words, ReadFault, WriteFault, Memory, InputTooLong}
-use Rattle.pe_session.specs.Outcome.{IsPrefix, IsCutShort, IsWhole, Wrote, IsWholeStatus, IsCutStatus, says_refused, AppendsPrefix}
+use Rattle.pe_session.specs.Outcome.{IsCutShort, IsWhole, Wrote, IsWholeStatus, IsCutStatus, says_refused, AppendsPrefix}
 
 at-end : (script : List ℕ) (left : Option (List ℕ)) (taken : List ℕ) → Consumes (Some script) left taken → IsAtEnd left → script ≡ taken
 at-end script None taken given e = absurd given

@@ -1,17 +1,16 @@
 -- The first failing test along plain documents: the first that is not same origin with its embedder.
-use Rattle.std.proofs.Common.{◌≡◌, ℕ, Bool, true, false, not, ◌&&◌, List, [], ◌∷◌, ◌++◌, map, Option, Some, None, is_none, is_some, refl, sym, ◌∙◌, ap}
+use Rattle.std.proofs.Common.{◌≡◌, ℕ, Bool, true, false, not, List, [], ◌∷◌, ◌++◌, Option, Some, None, refl, sym, ◌∙◌, ap}
 use Rattle.std.specs.Prelude.{if◌then◌else◌}
 use Rattle.std.specs.Option.{option_or}
 use Rattle.pe_base.specs.declared.denial.Denial.{Denial}
 use Rattle.pe_base.specs.declared.denial.LinkRule.TheVariants.{Default}
 use Rattle.pe_features.specs.declared.feature.Feature.{Feature}
-use Rattle.pe_features.specs.declared.feature.DefaultList.{DefaultList}
 use Rattle.pe_features.specs.declared.feature.DefaultList.TheVariants.{Any, OwnOrigin}
 use Rattle.pe_features.specs.Features.{default_of}
 use Rattle.pe_origin.specs.Origins.{is_same_origin}
 use Rattle.pe_rules.specs.History.{when}
-use Rattle.pe_policy.specs.Links.{Link, is_own_origin, pair_test, own_test}
-use Rattle.pe_policy.specs.Denials.{first_failing, denial}
+use Rattle.pe_policy.specs.Links.{Link, pair_test, own_test}
+use Rattle.pe_policy.specs.Denials.{first_failing}
 use Rattle.pe_session.specs.Keeping.{IsPlain, ArePlain, first_crossing}
 
 -- the denial by the default allowlist at a document, where there is one

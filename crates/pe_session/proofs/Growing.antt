@@ -1,16 +1,14 @@
 -- What is kept, with one more event.
-use Rattle.std.proofs.Common.{◌≡◌, ◌≢◌, ℕ, zero, suc, ◌+◌, ◌<◌, ◌≤◌, Bool, true, false, not, ◌&&◌, ◌==◌, nat_lt, List, [], ◌∷◌, ◌++◌, length, filter, get_or, Option, Some, None, is_some, is_none, option_map, option_and_then, option_to_list, refl, sym, ◌∙◌, ap, arith, cond, add-one, length-append, subst}
-use Rattle.std.proofs.lemmas.List.{length_push, get_or_at, get_or_append_left, get_or-append_right}
+use Rattle.std.proofs.Common.{◌≡◌, ◌≢◌, ℕ, zero, suc, ◌+◌, ◌<◌, ◌≤◌, Bool, true, false, ◌&&◌, ◌==◌, nat_lt, List, [], ◌∷◌, ◌++◌, length, filter, get_or, Option, Some, None, is_none, option_to_list, refl, sym, ◌∙◌, ap, arith, length-append, subst}
+use Rattle.std.proofs.lemmas.List.{length_push, get_or_at, get_or_append_left}
 use Rattle.std.proofs.lemmas.List.Elements.{filter-append}
 use Rattle.std.proofs.lemmas.Bool.Decides.{nat_tests}
-use Rattle.std.specs.Option.{option_or}
 use Rattle.pe_events.specs.declared.event.Event.{Event}
-use Rattle.pe_rules.specs.History.{Item, Step, Told, when, newest, each, clock}
-use Rattle.pe_rules.specs.Numbering.{makes_frame, is_frame, frames_made, last_document, parent_by, parent_frame}
-use Rattle.pe_rules.specs.Embedders.{page, page_of_frame}
-use Rattle.pe_rules.specs.Current.{is_current, document_in, is_live}
+use Rattle.pe_rules.specs.History.{Item, Step, Told, when, each, clock}
+use Rattle.pe_rules.specs.Numbering.{makes_frame, is_frame, frames_made, parent_frame}
+use Rattle.pe_rules.specs.Embedders.{page_of_frame}
+use Rattle.pe_rules.specs.Current.{document_in, is_live}
 use Rattle.pe_rules.specs.Causes.{is_same_number, live_pages, live_frames}
-use Rattle.pe_rules.specs.Statuses.{Status, status_by}
 use Rattle.pe_laws.proofs.Numbers.{not_same, is_same}
 use Rattle.pe_session.specs.declared.events.Frame.{Frame}
 use Rattle.pe_session.specs.Keeping.{IsKept, IsKeptAt, AreKept, statuses_made}

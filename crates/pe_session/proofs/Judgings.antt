@@ -1,16 +1,13 @@
 -- How a line is judged.
-use Rattle.std.proofs.Common.{◌≡◌, ℕ, ◌+◌, Bool, true, false, List, [], ◌∷◌, ◌++◌, map, filter, flat_map, Option, Some, None, Result, Ok, Err, IfOk, refl, sym, ◌∙◌, ap, append-nil, subst, rules}
-use Rattle.std.specs.List.{concat}
-use Rattle.pe_lines.specs.declared.word.Word.{Word}
-use Rattle.pe_lines.specs.Words.{has_bad_byte, words_of}
-use Rattle.pe_events.specs.Texts.{answer_text, change_text}
+use Rattle.std.proofs.Common.{◌≡◌, ℕ, Bool, true, false, List, [], ◌∷◌, ◌++◌, Option, Some, None, Result, Ok, Err, IfOk, refl, sym, ◌∙◌, ap, append-nil}
+use Rattle.pe_events.specs.Texts.{answer_text}
 use Rattle.pe_events.specs.declared.answer.Answer.{Answer}
 use Rattle.pe_events.specs.declared.answer.Answer.TheVariants as answer
 use Rattle.pe_events.specs.declared.cause.Cause.{Cause}
 use Rattle.pe_events.specs.declared.event.Event.{Event}
 use Rattle.pe_events.specs.Timed.{Timed}
 use Rattle.pe_script.specs.Reading.{Reading, Silent, Refusal, Says}
-use Rattle.pe_rules.specs.History.{Item, Step, Told, History, clock}
+use Rattle.pe_rules.specs.History.{Told, History, clock}
 use Rattle.pe_rules.specs.Causes.{cause_of}
 use Rattle.pe_rules.specs.Changes.{numbers_above, changes_before, changes_after}
 use Rattle.pe_rules.specs.Statuses.{live_statuses}

@@ -1,17 +1,14 @@
 -- What an event that makes at most a frame of its own leaves of what was there before it.
-use Rattle.std.proofs.Common.{◌≡◌, ◌≢◌, ℕ, suc, ◌+◌, ◌<◌, ◌≤◌, Bool, true, false, not, ◌&&◌, ◌==◌, List, [], ◌∷◌, ◌++◌, length, map, filter, Option, Some, None, is_some, is_none, unwrap_or, option_map, option_and_then, option_to_list, refl, sym, ◌∙◌, ap, arith, cond}
-use Rattle.std.specs.Option.{option_or}
+use Rattle.std.proofs.Common.{◌≡◌, ◌≢◌, ℕ, suc, ◌≤◌, Bool, true, false, ◌&&◌, ◌==◌, List, [], ◌∷◌, ◌++◌, length, filter, Option, Some, None, is_some, option_map, option_and_then, option_to_list, refl, sym, ◌∙◌, ap, arith}
 use Rattle.pe_events.specs.declared.event.Event.{Event}
 use Rattle.pe_events.specs.declared.event.Event.TheVariants as event
 use Rattle.pe_rules.specs.History.{Step, Told, when, newest, each}
-use Rattle.pe_rules.specs.Numbering.{makes_frame, document_frame, is_made, is_frame, made, frames_made, last_document, parent_by, parent_frame}
-use Rattle.pe_rules.specs.Making.{making, frame_of}
-use Rattle.pe_rules.specs.Embedders.{chain, first_or, top_document, page, page_of_frame, depth}
+use Rattle.pe_rules.specs.Numbering.{makes_frame, document_frame, is_frame, frames_made, last_document, parent_frame}
+use Rattle.pe_rules.specs.Embedders.{chain, first_or, top_document, page, page_of_frame}
 use Rattle.pe_rules.specs.Current.{ends, frames_above, is_current, document_in, is_live}
-use Rattle.pe_rules.specs.Origins.{origin_of, sandbox_flag}
-use Rattle.pe_rules.specs.Denials.{link, links}
+use Rattle.pe_rules.specs.Denials.{link}
 use Rattle.pe_rules.specs.Statuses.{status_by}
-use Rattle.pe_laws.proofs.Numbers.{not_same, is_same}
+use Rattle.pe_laws.proofs.Numbers.{not_same}
 use Rattle.pe_laws.proofs.Older.{AllWithin, origin-older, chain-older, flag-older, declared-older, container-older, links-older, frame-older, chain-within, last-below}
 use Rattle.pe_laws.proofs.Current.{current-older}
 use Rattle.pe_session.specs.declared.events.Frame.{Frame}

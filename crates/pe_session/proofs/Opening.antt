@@ -1,20 +1,17 @@
 -- What an opened page and an embedded frame add.
-use Rattle.std.proofs.Common.{◌≡◌, ◌≢◌, ℕ, suc, ◌+◌, ◌<◌, ◌≤◌, Bool, true, false, not, ◌&&◌, ◌||◌, ◌==◌, List, [], ◌∷◌, ◌++◌, length, map, Option, Some, None, is_some, is_none, unwrap_or, option_map, option_and_then, refl, sym, ◌∙◌, ap, arith, cond, append_assoc, if◌then◌else◌}
+use Rattle.std.proofs.Common.{◌≡◌, ℕ, suc, ◌+◌, ◌<◌, ◌≤◌, Bool, true, false, not, List, [], ◌∷◌, ◌++◌, length, map, Option, Some, None, is_some, option_map, refl, sym, ◌∙◌, ap, arith, append_assoc, if◌then◌else◌}
 use Rattle.std.proofs.lemmas.List.{map-append, length_push, length-map}
 use Rattle.std.specs.Option.{option_or}
 use Rattle.pe_origin.specs.declared.origin.Origin.{Origin}
-use Rattle.pe_origin.specs.declared.place.Place.{Place}
 use Rattle.pe_origin.specs.Origins.{is_same_origin}
 use Rattle.pe_events.specs.declared.event.Event.{Event}
 use Rattle.pe_events.specs.declared.event.Event.TheVariants as event
 use Rattle.pe_allowlist.specs.ContainerPolicy.{container_policy, list_by_pieces}
 use Rattle.pe_allowlist.specs.AsciiWords.{pieces_at, ascii_words}
-use Rattle.pe_allowlist.specs.Lists.{no_lists}
 use Rattle.pe_allowlist.specs.declared.container.DeclaredOrigin.{DeclaredOrigin}
 use Rattle.pe_header.specs.DeclaredPolicy.{declared_policy}
 use Rattle.pe_features.specs.declared.feature.Feature.{Feature}
-use Rattle.pe_features.specs.Features.{default_of, feature_name}
-use Rattle.pe_policy.specs.Links.{Link}
+use Rattle.pe_features.specs.Features.{default_of}
 use Rattle.pe_rules.specs.History.{Item, Step, Told, when, newest, since}
 use Rattle.pe_rules.specs.Attributes.{no_attributes}
 use Rattle.pe_rules.specs.Numbering.{is_frame, last_document}
@@ -23,10 +20,10 @@ use Rattle.pe_rules.specs.Embedders.{chain, first_or, top_document, page}
 use Rattle.pe_rules.specs.Current.{is_current}
 use Rattle.pe_rules.specs.Origins.{origin_of, sandbox_flag, origin_of_place, place_or_none, is_blank_kind}
 use Rattle.pe_rules.specs.Denials.{declared_lists, container_in, container_lists, link, links}
-use Rattle.pe_laws.proofs.Numbers.{not_same, is_same, is_within}
+use Rattle.pe_laws.proofs.Numbers.{is_same, is_within}
 use Rattle.pe_laws.proofs.Older.{links-older, chain-older, frame-older, chain-within}
 use Rattle.pe_session.specs.declared.events.Frame.{Frame}
-use Rattle.pe_session.specs.Keeping.{IsPlain, ArePlain, IsKept, first_crossing}
+use Rattle.pe_session.specs.Keeping.{IsPlain, IsKept, first_crossing}
 use Rattle.pe_session.specs.Replying.{step_of, child_origin, crossing_below}
 use Rattle.pe_session.proofs.Older.{first-within}
 use Rattle.pe_session.proofs.Crossings.{crossed, crossing-append, plain-append}

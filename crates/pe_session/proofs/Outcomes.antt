@@ -1,15 +1,15 @@
 -- What is written in all, at each end of a run.
-use Rattle.std.proofs.Common.{◌≡◌, ℕ, ◌+◌, ◌-◌, ◌<◌, ◌≤◌, Bool, List, [], ◌∷◌, ◌++◌, Option, Some, None, IfSome, length, take, drop, map, sym, ap, ◌∙◌, refl, append_assoc, append-nil, subst, arith, length-append, take-append-drop}
+use Rattle.std.proofs.Common.{◌≡◌, ℕ, ◌+◌, ◌-◌, ◌≤◌, List, [], ◌++◌, Option, Some, None, IfSome, length, take, drop, sym, ap, ◌∙◌, refl, append_assoc, append-nil, subst, arith, length-append, take-append-drop}
 use Rattle.std.proofs.lemmas.List.{take-append-le, map-append, take-take}
 use Rattle.std.proofs.Math.Seq.{take-append-add}
-use Rattle.std.specs.Io.KnownBytes.{Appends, IsAtEnd}
+use Rattle.std.specs.Io.KnownBytes.{IsAtEnd}
 use Rattle.pe_lines.specs.Lines.{told_lines, told_ended_lines, ended_lines}
 use Rattle.pe_output.specs.Built.{reading_built, built_text, built_ended_text}
 use Rattle.pe_output.specs.OutputText.{text_from}
 use Rattle.pe_session.specs.declared.session.Session.{Session}
 use Rattle.pe_session.specs.Session.{history_after_lines, readings, IsAt, Adds, AddsLast}
 use Rattle.pe_session.specs.Outcome.{IsPrefix, IsCutShort}
-use Rattle.pe_session.proofs.Texts.{text-append, length-readings}
+use Rattle.pe_session.proofs.Texts.{text-append}
 
 -- lines that a line feed ended stay, whatever comes behind them, and are the first of all lines
 pub record LinesStay : Type 0 where

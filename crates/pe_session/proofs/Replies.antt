@@ -1,7 +1,6 @@
 -- What the events that are built are replied.
-use Rattle.std.proofs.Common.{◌≡◌, ◌≢◌, ℕ, zero, suc, ◌+◌, ◌<◌, ◌≤◌, Bool, true, false, not, ◌&&◌, ◌==◌, List, [], ◌∷◌, ◌++◌, length, filter, get_or, Option, Some, None, is_some, is_none, option_map, option_and_then, refl, sym, ◌∙◌, ap, arith, cond, add-one, subst}
+use Rattle.std.proofs.Common.{◌≡◌, ◌≢◌, ℕ, zero, suc, ◌+◌, ◌<◌, ◌≤◌, true, false, List, [], ◌∷◌, ◌++◌, length, get_or, Option, Some, None, is_none, option_and_then, refl, sym, ◌∙◌, ap, arith, add-one, subst}
 use Rattle.std.proofs.lemmas.List.{length_push}
-use Rattle.std.specs.Option.{option_or}
 use Rattle.pe_features.specs.declared.feature.Feature.{Feature}
 use Rattle.pe_features.specs.declared.feature.DefaultList.{DefaultList}
 use Rattle.pe_features.specs.declared.feature.DefaultList.TheVariants.{Any, OwnOrigin}
@@ -9,17 +8,16 @@ use Rattle.pe_features.specs.Features.{feature_named, default_of}
 use Rattle.pe_origin.specs.declared.origin.Origin.{Origin}
 use Rattle.pe_origin.specs.declared.place.Place.{Place}
 use Rattle.pe_origin.specs.Places.{place_at}
-use Rattle.pe_events.specs.declared.answer.Answer.{Answer}
 use Rattle.pe_events.specs.declared.answer.Answer.TheVariants as answer
 use Rattle.pe_events.specs.declared.cause.Cause.TheVariants as cause
 use Rattle.pe_events.specs.declared.event.Event.{Event}
 use Rattle.pe_events.specs.declared.event.Event.TheVariants as event
 use Rattle.pe_policy.specs.Denials.{denial}
-use Rattle.pe_rules.specs.History.{Item, Said, Step, Told, when, newest, clock}
-use Rattle.pe_rules.specs.Numbering.{is_frame, last_document, parent_frame}
-use Rattle.pe_rules.specs.Embedders.{chain, depth, page_of_frame}
-use Rattle.pe_rules.specs.Current.{document_in, is_live}
-use Rattle.pe_rules.specs.Origins.{origin_of, origin_of_place, place_or_none}
+use Rattle.pe_rules.specs.History.{Item, Said, Told, newest, clock}
+use Rattle.pe_rules.specs.Numbering.{is_frame, parent_frame}
+use Rattle.pe_rules.specs.Embedders.{depth}
+use Rattle.pe_rules.specs.Current.{document_in}
+use Rattle.pe_rules.specs.Origins.{origin_of_place, place_or_none}
 use Rattle.pe_rules.specs.Denials.{links, why_denied}
 use Rattle.pe_rules.specs.Settings.{setting_by}
 use Rattle.pe_rules.specs.Causes.{cause_of, names_unknown, names_settled, names_closed, names_not_shown, has_bad_url, has_bad_feature, has_bad_call, has_bad_capability, names_other_page, live_pages, live_frames, exceeds_pages, exceeds_depth, exceeds_frames, exceeds_statuses, exceeds_pending, exceeds_store}
@@ -28,9 +26,9 @@ use Rattle.pe_laws.proofs.Numbers.{not_same, is_same}
 use Rattle.pe_session.specs.declared.events.Events.{Events}
 use Rattle.pe_session.specs.declared.events.Frame.{Frame}
 use Rattle.pe_session.specs.declared.reply.Reply.{Reply}
-use Rattle.pe_session.specs.Keeping.{IsKept, IsKeptAt, AreKept, Keeps, frame_numbered, first_crossing}
+use Rattle.pe_session.specs.Keeping.{IsKept, IsKeptAt, AreKept, Keeps, frame_numbered}
 use Rattle.pe_session.specs.Replying.{step_of, told_reply, denied_at, policy_reply, child_origin, crossing_below, IsRefusal, IsAcceptance, IsReply}
-use Rattle.pe_session.proofs.Older.{IsQuiet, quiet-open, quiet-embed, quiet-policy}
+use Rattle.pe_session.proofs.Older.{quiet-open, quiet-embed, quiet-policy}
 use Rattle.pe_session.proofs.Crossings.{denial_at, first-own, first-any}
 use Rattle.pe_session.proofs.Opening.{embedding, kept-page, origin-page, kept-child, origin-child}
 use Rattle.pe_session.proofs.Growing.{live-kept, page-kept, pages-kept, keep-frame, keep-none, push-at, push-other, push-zero, zero-at-end}

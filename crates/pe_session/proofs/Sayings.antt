@@ -1,6 +1,5 @@
 -- What the words of a line say, in the forms that are built.
-use Rattle.std.proofs.Common.{◌≡◌, ◌≢◌, ℕ, suc, ◌+◌, ◌<◌, ◌≤◌, Bool, true, false, not, ◌&&◌, ◌||◌, ◌==◌, List, [], ◌∷◌, length, drop, get_or, Option, Some, None, is_some, unwrap_or, option_map, option_and_then, refl, sym, ◌∙◌, ap, arith, cond, codes, bytes_eq, if◌then◌else◌, add-one}
-use Rattle.std.specs.List.{list_all}
+use Rattle.std.proofs.Common.{◌≡◌, ℕ, suc, ◌+◌, ◌<◌, ◌≤◌, Bool, true, false, not, ◌&&◌, ◌||◌, ◌==◌, List, [], ◌∷◌, length, drop, get_or, Option, Some, None, is_some, unwrap_or, option_map, option_and_then, refl, sym, ◌∙◌, ap, codes, bytes_eq, if◌then◌else◌, add-one}
 use Rattle.std.proofs.Math.Seq.{drop-cons}
 use Rattle.std.proofs.lemmas.List.{drop_all}
 use Rattle.std.proofs.lemmas.Slice.Eq.{bytes_eq-Decides}
@@ -12,12 +11,12 @@ use Rattle.pe_events.specs.declared.cause.Cause.TheVariants as cause
 use Rattle.pe_events.specs.declared.event.Event.{Event}
 use Rattle.pe_events.specs.declared.event.Event.TheVariants as event
 use Rattle.pe_events.specs.Timed.{Timed}
-use Rattle.pe_script.specs.Numerals.{bare, time_of, positive, number_of}
+use Rattle.pe_script.specs.Numerals.{bare, time_of}
 use Rattle.pe_script.specs.Names.{is_keyword}
 use Rattle.pe_script.specs.Verbs.{frame_word, headers, options, event_of}
 use Rattle.pe_script.specs.Reading.{Reading, Silent, Refusal, Says, timed_of, reading_of}
 use Rattle.pe_output.specs.Built.{is_built, as_built, reading_built}
-use Rattle.pe_session.specs.Saying.{is_silent, default_word, embed_said, policy_said, event_on_frame, open_said, event_built, reading_said}
+use Rattle.pe_session.specs.Saying.{is_silent, default_word, embed_said, open_said, event_built, reading_said}
 
 -- ---- blanks and comments
 

@@ -1,18 +1,17 @@
 -- What a piece adds to the lines and the text of the bytes taken.
-use Rattle.std.proofs.Common.{◌≡◌, ℕ, ◌+◌, ◌≤◌, Bool, true, false, List, [], ◌∷◌, ◌++◌, Option, Some, None, length, map, sym, ap, ◌∙◌, refl, append_assoc, append-nil, subst, inl, inr, IsTrue, arith, length-append}
+use Rattle.std.proofs.Common.{◌≡◌, ℕ, ◌+◌, Bool, false, List, [], ◌∷◌, ◌++◌, Option, Some, None, length, sym, ap, ◌∙◌, refl, append_assoc, append-nil, subst, inl, inr, arith, length-append}
 use Rattle.std.proofs.lemmas.List.{map-append}
 use Rattle.std.specs.Prelude.{◌||◌}
 use Rattle.pe_lines.specs.declared.cutter.Cut.{Cut}
 use Rattle.pe_lines.specs.Lines.{lines, ended_lines, told_lines, told_ended_lines}
 use Rattle.pe_lines.specs.Rests.{Rest}
 use Rattle.pe_lines.specs.Cutting.{Cuts, TakesLine, TakesLast, HasNoLine, IsNext, told}
-use Rattle.pe_rules.specs.History.{History}
 use Rattle.pe_output.specs.Built.{reading_built, built_text, built_ended_text, built_refuses}
-use Rattle.pe_output.specs.OutputText.{line_text, is_refused, text_from, refuses_from}
+use Rattle.pe_output.specs.OutputText.{line_text, text_from, refuses_from}
 use Rattle.pe_session.specs.declared.events.Events.{Events}
 use Rattle.pe_session.specs.Judging.{Stands, Judged}
 use Rattle.pe_session.specs.Session.{history_after_lines, readings, Went, Adds, AddsLast}
-use Rattle.pe_session.proofs.Texts.{text-append, history-append, refuses-append, or-false, text-one, refuses-one, length-readings}
+use Rattle.pe_session.proofs.Texts.{text-append, history-append, refuses-append, text-one, refuses-one, length-readings}
 
 -- ---- how `Cuts` goes on
 

@@ -1,5 +1,5 @@
 -- How texts, histories and refusals of lines go on.
-use Rattle.std.proofs.Common.{◌≡◌, ℕ, suc, ◌+◌, Bool, true, false, List, [], ◌∷◌, ◌++◌, Option, length, map, sym, ap, ◌∙◌, refl, append_assoc, append-nil, subst, arith}
+use Rattle.std.proofs.Common.{◌≡◌, ℕ, suc, ◌+◌, Bool, true, false, List, [], ◌∷◌, ◌++◌, Option, length, sym, ap, ◌∙◌, refl, append_assoc, append-nil, arith}
 use Rattle.std.proofs.lemmas.List.{map-append}
 use Rattle.std.specs.Prelude.{◌||◌}
 use Rattle.pe_rules.specs.History.{History}

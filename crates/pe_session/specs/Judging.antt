@@ -1,8 +1,8 @@
 -- What the accepted events are kept as, and what is judged of a line.
 -- This project's own.
 -- What is kept stands for a history where it says of each position what the definitions over that history say.
-use Rattle.std.specs.Prelude.{◌≡◌, ℕ, ◌+◌, Bool, true, false, List, [], ◌++◌, length, get_or, Option, Some, None}
-use Rattle.pe_rules.specs.History.{History, Told}
+use Rattle.std.specs.Prelude.{◌≡◌, ℕ, Bool, List, ◌++◌, Option}
+use Rattle.pe_rules.specs.History.{History}
 use Rattle.pe_rules.specs.Replies.{told}
 use Rattle.pe_output.specs.Built.{reading_built}
 use Rattle.pe_output.specs.OutputText.{line_text, history_after_line, is_refused}

@@ -1,13 +1,12 @@
 -- What is kept of the accepted events, so that later lines can be judged.
 -- This project's own.
 -- Each frame of these histories is live and has the one document that was made with it, which has the frame's number.
-use Rattle.std.specs.Prelude.{◌≡◌, ℕ, zero, suc, ◌+◌, ◌≤◌, Bool, true, false, not, List, [], ◌∷◌, ◌++◌, length, get_or, All, Option, Some, None, option_to_list, if◌then◌else◌}
+use Rattle.std.specs.Prelude.{◌≡◌, ℕ, zero, suc, ◌+◌, ◌≤◌, true, false, not, List, [], ◌∷◌, ◌++◌, length, get_or, Option, Some, None, option_to_list}
 use Rattle.std.specs.Option.{option_or}
-use Rattle.pe_base.specs.declared.denial.Denial.{Denial}
 use Rattle.pe_features.specs.declared.feature.Feature.{Feature}
 use Rattle.pe_origin.specs.Origins.{is_same_origin}
 use Rattle.pe_policy.specs.Links.{Link}
-use Rattle.pe_rules.specs.History.{Step, Told, when, each, clock}
+use Rattle.pe_rules.specs.History.{Told, when, each, clock}
 use Rattle.pe_rules.specs.Numbering.{is_frame, last_document}
 use Rattle.pe_rules.specs.Embedders.{chain, page}
 use Rattle.pe_rules.specs.Current.{is_current}

@@ -1,7 +1,7 @@
 -- What an event is replied, and what it leaves.
 -- This project's own.
 -- A refusal leaves everything as it is; with an accepted event what is kept goes on.
-use Rattle.std.specs.Prelude.{◌≡◌, ℕ, Bool, true, false, not, List, [], ◌∷◌, Option, Some, None, if◌then◌else◌}
+use Rattle.std.specs.Prelude.{◌≡◌, ℕ, Bool, true, false, ◌∷◌, Option, Some, None, if◌then◌else◌}
 use Rattle.pe_base.specs.declared.denial.LinkRule.TheVariants as rule
 use Rattle.pe_features.specs.declared.feature.DefaultList.{DefaultList}
 use Rattle.pe_features.specs.declared.feature.DefaultList.TheVariants.{Any, OwnOrigin}

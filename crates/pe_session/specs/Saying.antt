@@ -1,8 +1,7 @@
 -- What the words of a line say, in the forms that are built.
 -- This project's own format.
 -- These are the steps of its reader; what a line says is said by the reading of lines.
-use Rattle.std.specs.Prelude.{◌≡◌, ℕ, Bool, true, false, not, ◌||◌, ◌&&◌, ◌==◌, List, [], ◌∷◌, codes, Option, Some, None, option_map, option_and_then, if◌then◌else◌}
-use Rattle.pe_features.specs.declared.feature.Feature.{Feature}
+use Rattle.std.specs.Prelude.{◌≡◌, ℕ, Bool, false, not, ◌||◌, ◌&&◌, List, [], ◌∷◌, codes, Option, Some, None, option_map, option_and_then, if◌then◌else◌}
 use Rattle.pe_features.specs.declared.feature.DefaultList.{DefaultList}
 use Rattle.pe_features.specs.Features.{feature_named, default_of}
 use Rattle.pe_lines.specs.declared.word.Word.{Word}

@@ -1,6 +1,5 @@
-use Rattle.std.proofs.Common.{◌≡◌, ℕ, Some, None, Err, IfOk, refl, sym, ap, ◌∙◌, subst}
+use Rattle.std.proofs.Common.{Err, refl, ap}
 use Rattle.pe_lines.specs.Words.{has_bad_byte}
-use Rattle.pe_session.specs.Replying.{AnswersWords, AnswersReading}
 use Rattle.pe_session.specs.Saying.{event_built}
 use Rattle.pe_session.proofs.Sayings.{reading-of-words, reading-of-bad-byte, reading-of-no-words}
 use Rattle.pe_session.proofs.Judgings.{words-answered, ok-more, not-true}

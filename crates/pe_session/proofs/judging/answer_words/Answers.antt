@@ -1,4 +1,4 @@
-use Rattle.std.proofs.Common.{◌≡◌, ℕ, Some, None, IfOk, refl, sym, ap, ◌∙◌, subst}
+use Rattle.std.proofs.Common.{Some, IfOk, sym, ap, ◌∙◌, subst}
 use Rattle.pe_session.specs.Replying.{AnswersWords}
 use Rattle.pe_session.specs.Saying.{event_said, HasFeature}
 use Rattle.pe_session.proofs.judging.answer_words.Goals as goal

@@ -1,4 +1,4 @@
-use Rattle.std.proofs.Common.{◌≡◌, ℕ, Some, None, IfOk, refl, sym, ap, ◌∙◌, subst}
+use Rattle.std.proofs.Common.{refl, sym, ap, ◌∙◌}
 use Rattle.pe_lines.specs.declared.cutter.Cut.{Cut}
 use Rattle.pe_lines.specs.Cutting.{told}
 use Rattle.pe_output.specs.Built.{reading_built}

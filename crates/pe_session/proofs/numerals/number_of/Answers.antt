@@ -1,4 +1,4 @@
-use Rattle.std.proofs.Common.{◌≡◌, ◌≤◌, ◌<◌, ◌+◌, ◌-◌, ◌*◌, ◌^◌, ℕ, refl, sym, ap, ◌∙◌, arith, get_or, take, length}
+use Rattle.std.proofs.Common.{◌≤◌, ◌+◌, ◌-◌, ◌*◌, refl, sym, ap, ◌∙◌, arith, get_or}
 use Rattle.pe_script.specs.Numerals.{number_of}
 use Rattle.pe_session.proofs.Digits.{number-more, digit-at, power-small, power-more}
 use Rattle.pe_session.proofs.numerals.number_of.Goals as goal

@@ -1,4 +1,4 @@
-use Rattle.std.proofs.Common.{◌≡◌, ◌≤◌, ℕ, ◌+◌, ◌^◌, take}
+use Rattle.std.proofs.Common.{◌≡◌, ◌≤◌, ◌+◌, ◌^◌, take}
 use Rattle.pe_script.specs.Numerals.{number_of}
 use Rattle.pe_session.proofs.numerals.number_of.Given as goal
 

@@ -1,4 +1,4 @@
-use Rattle.std.proofs.Common.{◌≡◌, refl, sym, ◌∙◌, true, false, not, Bool}
+use Rattle.std.proofs.Common.{sym, ◌∙◌}
 use Rattle.pe_session.proofs.Sayings.{silent-end, silent-more, silent-here}
 use Rattle.pe_session.proofs.reading.is_silent.Goals as goal
 

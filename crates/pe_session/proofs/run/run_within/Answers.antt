@@ -1,4 +1,4 @@
-use Rattle.std.proofs.Common.{[], subst, arith, ◌<◌}
+use Rattle.std.proofs.Common.{[], subst, arith}
 use Rattle.std.proofs.KnownBytes.{Consumes-nil, Appends-nil}
 use Rattle.pe_session.specs.Outcome.{IsCutShort}
 use Rattle.pe_session.proofs.Outcomes.{cut-now, nothing-yet}

@@ -1,10 +1,9 @@
-use Rattle.std.proofs.Common.{◌≡◌, ◌≤◌, ◌<◌, ◌+◌, ◌-◌, ◌++◌, ℕ, List, [], length, take, arith, refl, sym, ap, ◌∙◌, subst, rules}
+use Rattle.std.proofs.Common.{◌≡◌, ◌≤◌, ◌<◌, ◌-◌, ◌++◌, [], length, take, arith, refl, sym, ap, ◌∙◌, subst, rules}
 use Rattle.std.proofs.lemmas.List.{length-take, length-append}
-use Rattle.std.specs.Io.KnownBytes.{Appends, Consumes}
+use Rattle.std.specs.Io.KnownBytes.{Consumes}
 use Rattle.std.proofs.KnownBytes.{Consumes-trans, Appends-trans, Consumes-nil, Appends-nil}
 use Rattle.pe_output.specs.Built.{built_ended_text}
-use Rattle.pe_session.specs.Outcome.{IsTooLong}
-use Rattle.pe_session.proofs.Outcomes.{LinesStay, number-small, nothing-yet, up-to-limit, cut-before-piece, cut-in-front, cut-now, cut-in-last, none-given}
+use Rattle.pe_session.proofs.Outcomes.{number-small, nothing-yet, up-to-limit, cut-before-piece, cut-in-front, cut-now, cut-in-last, none-given}
 use Rattle.pe_session.proofs.run.stream.Goals as goal
 
 pub loop-count-init : goal.loop-count-init

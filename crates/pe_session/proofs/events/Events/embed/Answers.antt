@@ -1,7 +1,6 @@
-use Rattle.std.proofs.Common.{◌≡◌, ◌<◌, ◌≤◌, ◌+◌, ℕ, List, ◌++◌, ◌∷◌, [], Some, None, refl, sym, ap, ◌∙◌, arith, length}
+use Rattle.std.proofs.Common.{◌+◌, ◌++◌, ◌∷◌, [], Some, refl, sym, ap, ◌∙◌, arith}
 use Rattle.pe_session.proofs.Replies.{open-refused-limit, embed-refused-unknown, embed-refused-url, embed-refused-depth, embed-refused-frames, embed-accepted}
 use Rattle.pe_session.proofs.events.Events.embed.Goals as goal
-use Rattle.pe_session.specs.declared.events.Frame.{Frame}
 use Rattle.pe_session.specs.Replying.{child_crossing}
 
 pub returns-in_default : goal.returns-in_default

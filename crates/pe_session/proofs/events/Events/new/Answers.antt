@@ -1,8 +1,7 @@
-use Rattle.std.proofs.Common.{◌≡◌, ℕ, [], refl, sym, ap, arith}
+use Rattle.std.proofs.Common.{refl, arith}
 use Rattle.pe_rules.specs.History.{clock, each, newest}
 use Rattle.pe_rules.specs.Causes.{live_pages, live_frames}
 use Rattle.pe_rules.specs.Numbering.{frames_made, is_frame}
-use Rattle.pe_session.specs.Keeping.{Keeps, IsKeptAt}
 use Rattle.pe_session.proofs.events.Events.new.Goals as goal
 
 pub returns : goal.returns

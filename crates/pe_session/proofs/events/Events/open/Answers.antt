@@ -1,7 +1,6 @@
-use Rattle.std.proofs.Common.{◌≡◌, ◌<◌, ◌≤◌, ◌+◌, ◌-◌, ℕ, List, ◌++◌, ◌∷◌, [], Some, None, refl, sym, ap, ◌∙◌, arith, length}
+use Rattle.std.proofs.Common.{◌≡◌, ◌+◌, ◌-◌, ◌++◌, ◌∷◌, [], Some, None, sym, ap, ◌∙◌, arith, length}
 use Rattle.pe_session.proofs.Replies.{open-refused-limit, open-refused-url, open-refused-pages, open-accepted}
 use Rattle.pe_session.proofs.events.Events.open.Goals as goal
-use Rattle.pe_session.specs.declared.events.Frame.{Frame}
 
 pub returns-in_default : goal.returns-in_default
 returns-in_default c = λ duration T h. open-refused-limit T _ _ h c.in_default.ensures.none

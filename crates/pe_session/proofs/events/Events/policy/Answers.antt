@@ -1,4 +1,4 @@
-use Rattle.std.proofs.Common.{◌≡◌, ◌<◌, ◌≤◌, ◌+◌, ℕ, List, ◌++◌, ◌∷◌, [], Some, None, refl, sym, ap, ◌∙◌, arith, length}
+use Rattle.std.proofs.Common.{sym, arith}
 use Rattle.pe_session.proofs.Replies.{open-refused-limit, policy-refused-unknown, policy-accepted, policy-replied, named-feature}
 use Rattle.pe_session.proofs.events.Events.policy.Goals as goal
 

@@ -1,6 +1,6 @@
-use Rattle.std.proofs.Common.{◌≡◌, List, ℕ, [], refl, ap}
+use Rattle.std.proofs.Common.{[], refl, ap}
 use Rattle.pe_lines.specs.Rests.{Rest}
-use Rattle.pe_session.specs.Session.{history_after_lines, readings, AddsLast}
+use Rattle.pe_session.specs.Session.{history_after_lines, readings}
 use Rattle.pe_lines.specs.Lines.{told_ended_lines}
 use Rattle.pe_session.proofs.Stretches.{next-none, last-taken, last-some, last-none}
 use Rattle.pe_session.proofs.session.Session.judge_last.Goals as goal

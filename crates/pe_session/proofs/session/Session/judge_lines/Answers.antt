@@ -1,9 +1,9 @@
-use Rattle.std.proofs.Common.{◌≡◌, ◌+◌, ◌≤◌, ◌++◌, false, List, ℕ, length, Option, ◌∷◌, arith, refl, []}
+use Rattle.std.proofs.Common.{◌++◌, ◌∷◌, arith, refl, []}
 use Rattle.std.proofs.lemmas.List.{length_push}
 use Rattle.pe_lines.specs.Cutting.{told}
 use Rattle.pe_session.specs.Session.{history_after_lines, readings}
 use Rattle.pe_session.proofs.Texts.{Went-more, Went-none}
-use Rattle.pe_session.proofs.Stretches.{next-whole, next-none, Cuts-none, Cuts-join}
+use Rattle.pe_session.proofs.Stretches.{next-whole, Cuts-none, Cuts-join}
 use Rattle.pe_session.proofs.session.Session.judge_lines.Goals as goal
 
 pub loop-line-init : goal.loop-line-init

@@ -1,4 +1,4 @@
-use Rattle.std.proofs.Common.{◌≡◌, List, [], refl, arith, ℕ, ap}
+use Rattle.std.proofs.Common.{[], refl}
 use Rattle.pe_lines.specs.Lines.{told_ended_lines, ended_lines}
 use Rattle.pe_output.specs.OutputText.{refuses_from}
 use Rattle.pe_rules.specs.Replies.{told}

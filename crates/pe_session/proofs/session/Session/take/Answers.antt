@@ -1,4 +1,4 @@
-use Rattle.std.proofs.Common.{◌≡◌, ◌+◌, ◌++◌, List, ℕ, [], ◌∙◌, sym, ap, arith, length, length-append}
+use Rattle.std.proofs.Common.{◌++◌, [], ◌∙◌, sym, ap, arith, length, length-append}
 use Rattle.pe_lines.specs.Lines.{told_ended_lines}
 use Rattle.pe_output.specs.Built.{built_ended_text}
 use Rattle.pe_session.specs.Session.{history_after_lines, readings}
