@@ -1,2 +1,2 @@
-pub mod Built
 pub mod OutputText
+pub mod Built

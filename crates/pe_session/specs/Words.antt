@@ -1,16 +1,23 @@
 -- What the words of the command line ask for.
--- It defines the form `run`, and what is written where the words are of no form.
 -- The command line is this project's own.
-use Rattle.std.specs.Prelude.{◌≡◌, ℕ, List, [], ◌∷◌, codes}
-use Rattle.std.specs.declared.option.Option.{Option}
+-- A form that is not built yet is none of the forms.
+use Rattle.std.specs.Prelude.{ℕ, nat_le, ◌&&◌, List, [], ◌∷◌, codes, bytes_eq, Option, Some, None, option_and_then, if◌then◌else◌}
 use Rattle.std.specs.Io.KnownBytes.{Appends}
+use Rattle.pe_base.specs.declared.limits.TheConstants.{DURATION_LIMIT}
 use Rattle.pe_io.specs.Pieces.{WritesPrefix}
+use Rattle.pe_script.specs.Numerals.{positive}
 use Rattle.pe_session.specs.declared.status.Status.{Status}
 use Rattle.pe_session.specs.declared.status.Status.TheVariants.{Words, WriteFault}
 
--- the one word `run`
-abbrev pub IsRun : List (List ℕ) → Type 0
-IsRun words = words ≡ codes "run" ∷ []
+-- MS: 1 to 60000, decimal without a leading zero
+abbrev pub duration_of : List ℕ → Option ℕ
+duration_of digits = option_and_then (λ ms. if nat_le 1 ms && nat_le ms DURATION_LIMIT then Some ms else None) (positive 5 digits)
+
+-- the duration of transient activation that the words ask a run with, in milliseconds: `run`, or `run MS`
+unfoldable pub duration_asked : List (List ℕ) → Option ℕ
+duration_asked (word ∷ []) = if bytes_eq word (codes "run") then Some 5000 else None
+duration_asked (word ∷ ms ∷ []) = if bytes_eq word (codes "run") then duration_of ms else None
+duration_asked words = None
 
 -- the usage line
 abbrev pub usage : List ℕ

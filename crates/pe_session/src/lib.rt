@@ -1,14 +1,17 @@
-//! A session: reads a script, answers each line, and writes the text.
+//! A session: reads a script in pieces, answers each line, and writes the text as the lines come.
 #![tactic(auto)]
 
-mod history;
-mod input;
-mod line;
+mod events;
+mod judging;
+mod numerals;
+mod reading;
+mod reply;
 mod run;
 mod serving;
+mod session;
 mod status;
-mod text;
 
+pub use run::run_within;
 pub use serving::serve;
 pub use status::Status;
 

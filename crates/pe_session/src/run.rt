@@ -1,97 +1,141 @@
-//! The run of a script.
-ghost use Rattle.std.specs.Prelude.{◌≡◌, ◌≢◌, ◌-◌, ◌^◌, ◌<◌, ◌≤◌};
+//! The whole run.
+ghost use Rattle.std.specs.Prelude.{◌≡◌, ◌≢◌, ◌-◌, ◌^◌, ◌<◌, ◌≤◌, ◌⊎◌, List, ℕ, [], length, IfOk, IfSome};
+ghost use Rattle.std.specs.Io.KnownBytes.{Appends, Consumes};
+ghost use Rattle.pe_output.specs.Built.{built_text, built_refuses};
+ghost use Rattle.pe_session.specs.Outcome.{
+  Wrote,
+  IsWholeStatus,
+  IsCutStatus,
+  says_refused,
+  AppendsPrefix,
+};
+ghost use Rattle.pe_session.specs.Session.{IsAt};
 
-use crate::history::{Answer, Cause, History, NotAccepted};
-use crate::input::{Stop, read_all};
-use crate::line::{Line, read_line};
+use crate::session::{Session, Stop};
 use crate::status::Status;
-use crate::text::{put_answer, put_refusal};
-use pe_io::{Sink, Source, write_whole};
+use pe_io::{Sink, Source};
+use pe_lines::ended_lines_stay;
 use std::alloc::{AllocError, Global};
 
-/// The text of a script, and whether a line of it was refused.
-#[derive(Drop)]
-struct Judged {
-    text: Vec<u8>,
-    refused: bool,
+/// How many bytes a read is offered.
+const ROOM: usize = 65_536;
+
+/// A room of this many bytes.
+fn make_room(alloc: Global, size: usize) -> Result<Vec<u8>, AllocError>
+    ensures { IfOk result (λ room. length room.items ≡ size) }
+{
+    vec![in alloc; 0; size]
 }
 
-/// Reads the script, and writes its text where the input is within the limit.
+/// Runs a script: reads the source to its end, and writes the text of its lines to the sink, the text
+/// of each whole line before the next read.
+///
+/// The duration of transient activation is in milliseconds. Of an input of more bytes than the limit
+/// the first bytes up to the limit are judged. The first fault ends the run.
 pub fn run_within<S: Source, K: Sink>(
     alloc: Global,
-    limit: usize,
+    duration: u32,
+    limit: u64,
     source: &mut S,
     sink: &mut K,
 ) -> Status
+    requires duration_low { 1 ≤ duration }
+    requires duration_high { duration ≤ 60000 }
+    requires limit { limit ≤ 1073741824 }
     requires source_count { S.faults source.old < 2 ^ 64 - 1 }
     requires sink_count { K.faults sink.old < 2 ^ 64 - 1 }
-    requires limit { limit < 2 ^ 63 }
+
+    // What is taken and what is written, by the status; also where the source or the sink tells nothing.
+    ensures text { (taken : List ℕ) × (wrote : List ℕ)
+        × Consumes (S.left source.old) (S.left source.new) taken
+        × Appends (K.written sink.old) (K.written sink.new) wrote
+        × Wrote duration result limit taken (S.left source.new) wrote }
+
+    // The same by the script, where the source tells it.
+    ensures whole { IsWholeStatus result → IfSome (S.left source.old) (λ script. (length script ≤ limit)
+        × Appends (K.written sink.old) (K.written sink.new) (built_text duration script)
+        × (built_refuses duration script ≡ says_refused result)) }
+    ensures cut_short { IsCutStatus result → IfSome (S.left source.old) (λ script.
+        AppendsPrefix (K.written sink.old) (K.written sink.new) (built_text duration script)) }
+    ensures too_long { result ≡ Status.InputTooLong → IfSome (S.left source.old) (λ script. limit < length script) }
+
+    // Where no count rose, only memory stops the run.
+    ensures complete { S.faults source.new ≡ S.faults source.old → K.faults sink.new ≡ K.faults sink.old →
+        IfSome (S.left source.old) (λ script. length script ≤ limit → IsWholeStatus result ⊎ (result ≡ Status.Memory)) }
+    ensures complete_long { S.faults source.new ≡ S.faults source.old → K.faults sink.new ≡ K.faults sink.old →
+        IfSome (S.left source.old) (λ script. limit < length script → (result ≡ Status.InputTooLong) ⊎ (result ≡ Status.Memory)) }
+
     ensures no_words { result ≢ Status.Words }
     ensures read_fault { result ≡ Status.ReadFault → S.faults source.old < S.faults source.new }
     ensures no_read_fault { result ≢ Status.ReadFault → S.faults source.new ≡ S.faults source.old }
     ensures write_fault { result ≡ Status.WriteFault → K.faults sink.old < K.faults sink.new }
     ensures no_write_fault { result ≢ Status.WriteFault → K.faults sink.new ≡ K.faults sink.old }
 {
-    let script = match read_all(alloc, limit, source) {
-        Ok(script) => script,
-        Err(Stop::Read) => return Status::ReadFault,
-        Err(Stop::TooLong) => return Status::InputTooLong,
-        Err(Stop::Memory) => return Status::Memory,
-    };
-    let Ok(judged) = judge(alloc, &script) else {
+    ended_lines_stay();
+    let Ok(mut room) = make_room(alloc, ROOM) else {
         return Status::Memory;
     };
-    match write_whole(sink, &judged.text) {
-        Err(_) => Status::WriteFault,
-        Ok(()) if judged.refused => Status::Refusals,
-        Ok(()) => Status::Clean,
-    }
+    stream(limit, &mut Session::new(alloc), &mut room, source, sink)
 }
 
-/// The text of the whole script.
-fn judge(alloc: Global, script: &[u8]) -> Result<Judged, AllocError> {
-    let mut history = History::new(alloc);
-    let mut judged = Judged {
-        text: Vec::new(alloc),
-        refused: false,
-    };
-    let mut number = 0u64;
-    let script = script.strip_suffix(b"\n").unwrap_or(script);
-    for line in script.split(|byte| *byte == b'\n') {
-        // There are fewer lines than bytes, so this never saturates.
-        number = number.saturating_add(1);
-        judge_line(alloc, number, line, &mut history, &mut judged)?;
-    }
-    Ok(judged)
-}
+/// Goes on to the end of the input, in a session that has taken nothing yet.
+fn stream<S: Source, K: Sink>(
+    limit: u64,
+    session: &mut Session,
+    room: &mut [u8],
+    source: &mut S,
+    sink: &mut K,
+) -> Status
+    requires starts { (duration : ℕ) → IsAt duration session.old [] }
+    requires some { 0 < length room.old }
+    requires few { length room.old ≤ 65536 }
+    requires limit { limit ≤ 1073741824 }
+    requires source_count { S.faults source.old < 2 ^ 64 - 1 }
+    requires sink_count { K.faults sink.old < 2 ^ 64 - 1 }
 
-/// Puts what is written for a line behind the text.
-fn judge_line(
-    alloc: Global,
-    number: u64,
-    line: &[u8],
-    history: &mut History,
-    judged: &mut Judged,
-) -> Result<(), AllocError> {
-    let line = line.strip_suffix(b"\r").unwrap_or(line);
-    match answer(line, history) {
-        Ok(None) => Ok(()),
-        Ok(Some(answer)) => put_answer(alloc, number, &answer, &mut judged.text),
-        Err(NotAccepted::Refused(cause)) => {
-            judged.refused = true;
-            put_refusal(alloc, number, cause, &mut judged.text)
+    ensures text { (duration : ℕ) → (taken : List ℕ) × (wrote : List ℕ)
+        × Consumes (S.left source.old) (S.left source.new) taken
+        × Appends (K.written sink.old) (K.written sink.new) wrote
+        × Wrote duration result limit taken (S.left source.new) wrote }
+
+    ensures read_fault { result ≡ Status.ReadFault → S.faults source.old < S.faults source.new }
+    ensures no_read_fault { result ≢ Status.ReadFault → S.faults source.new ≡ S.faults source.old }
+    ensures write_fault { result ≡ Status.WriteFault → K.faults sink.old < K.faults sink.new }
+    ensures no_write_fault { result ≢ Status.WriteFault → K.faults sink.new ≡ K.faults sink.old }
+{
+    ended_lines_stay();
+    let mut total = 0;
+    loop {
+        let Ok(count) = source.read(room) else {
+            return Status::ReadFault;
+        };
+        if count == 0 {
+            break;
         }
-        Err(NotAccepted::Memory) => Err(AllocError),
+        let spare = (limit - total) as usize;
+        if count > spare {
+            return match session.take(sink, &room[..spare]) {
+                Ok(()) => Status::InputTooLong,
+                Err(Stop::Memory) => Status::Memory,
+                Err(Stop::Write) => Status::WriteFault,
+            };
+        }
+        match session.take(sink, &room[..count]) {
+            Ok(()) => {}
+            Err(Stop::Memory) => return Status::Memory,
+            Err(Stop::Write) => return Status::WriteFault,
+        }
+        total += count as u64;
     }
-}
-
-/// The answer to a line, or nothing for one that is silent.
-fn answer(line: &[u8], history: &mut History) -> Result<Option<Answer>, NotAccepted> {
-    match read_line(line) {
-        Line::Silent => Ok(None),
-        Line::Open { url } => Ok(Some(history.open(url)?)),
-        Line::Embed { parent, url } => Ok(Some(history.embed(parent, url)?)),
-        Line::Policy { frame, default } => Ok(Some(history.policy(frame, default)?)),
-        Line::Wrong => Err(NotAccepted::Refused(Cause::Syntax)),
+    match session.end(sink) {
+        Ok(()) => {
+            if session.has_refused() {
+                Status::Refusals
+            } else {
+                Status::Clean
+            }
+        }
+        Err(Stop::Memory) => Status::Memory,
+        Err(Stop::Write) => Status::WriteFault,
     }
 }

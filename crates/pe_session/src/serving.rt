@@ -1,21 +1,78 @@
 //! The top call.
-ghost use Rattle.std.specs.Prelude.{◌≡◌, ◌≢◌, ◌-◌, ◌^◌, ◌<◌, ◌↔◌, IsTrue, map};
+ghost use Rattle.std.specs.Prelude.{
+  ◌≡◌,
+  ◌≢◌,
+  ◌-◌,
+  ◌^◌,
+  ◌<◌,
+  ◌≤◌,
+  ◌⊎◌,
+  List,
+  ℕ,
+  length,
+  map,
+  Some,
+  None,
+  IfSome,
+};
+ghost use Rattle.std.specs.Io.KnownBytes.{Appends, Consumes};
 ghost use Rattle.std.specs.String.{string_bytes};
-ghost use Rattle.pe_session.specs.Words.{IsRun, Explains};
+ghost use Rattle.pe_output.specs.Built.{built_text, built_refuses};
+ghost use Rattle.pe_session.specs.Outcome.{Wrote, IsWholeStatus, IsCutStatus, says_refused, AppendsPrefix};
+ghost use Rattle.pe_session.specs.Words.{duration_asked, duration_of, Explains};
 
+use crate::numerals::positive;
 use crate::run::run_within;
 use crate::status::Status;
+use pe_base::{DURATION_LIMIT, INPUT_LIMIT};
 use pe_io::{Sink, Source, write_whole};
 use std::alloc::Global;
 
-/// The most bytes that a script may have for now.
-const LIMIT: usize = 8_388_608;
+/// The duration of transient activation in milliseconds, where the words name none.
+const DURATION: u32 = 5000;
 
 /// What is written where the words are none of the forms.
 const USAGE: &[u8] = b"usage: permissions run [MS] | generate SEED COUNT | check\n";
 
-/// Does what the words ask for: `run` reads a script from the source and writes its text to the sink.
-/// Other words are answered with the usage line.
+/// The number of milliseconds that a word names.
+fn duration_of(word: &str) -> Option<u32>
+    ensures value { result ≡ duration_of word.now }
+    ensures range { IfSome result (λ ms. (1 ≤ ms) × (ms ≤ 60000)) }
+{
+    let ms = positive(word.as_bytes(), 5)?;
+    if ms < 1 || ms > DURATION_LIMIT {
+        return None;
+    }
+    Some(ms)
+}
+
+/// The duration that the words ask a run with.
+#[tactic(auto, unfolding(crate::specs::Words::duration_asked))]
+fn duration_asked(words: &[String]) -> Option<u32>
+    ensures value { result ≡ duration_asked (map string_bytes words.now) }
+    ensures range { IfSome result (λ ms. (1 ≤ ms) × (ms ≤ 60000)) }
+{
+    match words {
+        [word] => {
+            if word.as_str() == "run" {
+                Some(DURATION)
+            } else {
+                None
+            }
+        }
+        [word, ms] => {
+            if word.as_str() == "run" {
+                duration_of(ms.as_str())
+            } else {
+                None
+            }
+        }
+        _ => None,
+    }
+}
+
+/// Does what the words ask for: `run` and `run MS` read a script from the source and write its text to
+/// the sink, with the duration 5000 or MS. Other words are answered with the usage line.
 pub fn serve<S: Source, K: Sink>(
     alloc: Global,
     words: &[String],
@@ -24,8 +81,30 @@ pub fn serve<S: Source, K: Sink>(
 ) -> Status
     requires source_count { S.faults source.old < 2 ^ 64 - 1 }
     requires sink_count { K.faults sink.old < 2 ^ 64 - 1 }
-    ensures run { IsRun (map string_bytes words.now) → result ≢ Status.Words }
-    ensures usage { ¬ IsRun (map string_bytes words.now) → (source.new ≡ source.old)
+
+    // What is taken and what is written by a run, by the status; also where the source or the sink
+    // tells nothing.
+    ensures run { (duration : ℕ) → duration_asked (map string_bytes words.now) ≡ Some duration → (taken : List ℕ) × (wrote : List ℕ)
+        × Consumes (S.left source.old) (S.left source.new) taken
+        × Appends (K.written sink.old) (K.written sink.new) wrote
+        × Wrote duration result 1073741824 taken (S.left source.new) wrote }
+
+    // The same by the script, where the source tells it.
+    ensures whole { (duration : ℕ) → duration_asked (map string_bytes words.now) ≡ Some duration → IsWholeStatus result →
+        IfSome (S.left source.old) (λ script. (length script ≤ 1073741824)
+        × Appends (K.written sink.old) (K.written sink.new) (built_text duration script)
+        × (built_refuses duration script ≡ says_refused result)) }
+    ensures cut_short { (duration : ℕ) → duration_asked (map string_bytes words.now) ≡ Some duration → IsCutStatus result →
+        IfSome (S.left source.old) (λ script. AppendsPrefix (K.written sink.old) (K.written sink.new) (built_text duration script)) }
+    ensures complete { (duration : ℕ) → duration_asked (map string_bytes words.now) ≡ Some duration →
+        S.faults source.new ≡ S.faults source.old → K.faults sink.new ≡ K.faults sink.old →
+        IfSome (S.left source.old) (λ script. length script ≤ 1073741824 → IsWholeStatus result ⊎ (result ≡ Status.Memory)) }
+    ensures complete_long { (duration : ℕ) → duration_asked (map string_bytes words.now) ≡ Some duration →
+        S.faults source.new ≡ S.faults source.old → K.faults sink.new ≡ K.faults sink.old →
+        IfSome (S.left source.old) (λ script. 1073741824 < length script → (result ≡ Status.InputTooLong) ⊎ (result ≡ Status.Memory)) }
+
+    // Words of no form leave the source untouched, and never want memory.
+    ensures usage { duration_asked (map string_bytes words.now) ≡ None → (source.new ≡ source.old)
         × Explains result (K.written sink.old) (K.written sink.new) }
 
     ensures read_fault { result ≡ Status.ReadFault → S.faults source.old < S.faults source.new }
@@ -33,21 +112,11 @@ pub fn serve<S: Source, K: Sink>(
     ensures write_fault { result ≡ Status.WriteFault → K.faults sink.old < K.faults sink.new }
     ensures no_write_fault { result ≢ Status.WriteFault → K.faults sink.new ≡ K.faults sink.old }
 {
-    if asks_run(words) {
-        return run_within(alloc, LIMIT, source, sink);
-    }
-    match write_whole(sink, USAGE) {
-        Ok(()) => Status::Words,
-        Err(_) => Status::WriteFault,
-    }
-}
-
-/// Whether the words are `run`.
-fn asks_run(words: &[String]) -> bool
-    ensures { IsTrue result ↔ IsRun (map string_bytes words.now) }
-{
-    match words {
-        [word] => word.as_str() == "run",
-        _ => false,
+    match duration_asked(words) {
+        Some(duration) => run_within(alloc, duration, INPUT_LIMIT, source, sink),
+        None => match write_whole(sink, USAGE) {
+            Ok(()) => Status::Words,
+            Err(_) => Status::WriteFault,
+        },
     }
 }

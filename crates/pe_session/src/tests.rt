@@ -1,26 +1,51 @@
-//! Whole runs: scripts and what is written for them. That the text is right is shown here alone.
-use crate::{Status, serve};
+//! Whole runs: scripts and what is written for them, through the rows of the format. That each line is
+//! answered by the definitions is proved; here the text itself is held against rows from outside.
+ghost use Rattle.std.specs.Prelude.{◌≡◌, IfOk};
+
+use crate::{Status, run_within, serve};
 use pe_io::{MemSink, MemSource, PlainSource};
+use std::alloc::Global;
 use std::test::Fail;
 
-/// Runs the words over a script.
-fn run(rt: &HostRuntime, words: &[&str], script: &[u8]) -> Result<(Status, MemSink), Fail> {
-    let alloc = rt.alloc();
+/// The words of the command line.
+fn arguments(alloc: Global, words: &[&str]) -> Result<Vec<String>, Fail> {
     let mut arguments = Vec::new(alloc);
     for word in words {
         arguments.push(String::from_str(alloc, word)?)?;
     }
+    Ok(arguments)
+}
+
+/// A sink with this room, without sizes or failing calls.
+fn sink_of(alloc: Global, room: usize) -> Result<MemSink, Fail>
+    ensures { IfOk result (λ s. s.faults ≡ 0) }
+{
+    Ok(MemSink::new(alloc, room, Vec::new(alloc), Vec::new(alloc))?)
+}
+
+/// Runs the words over a script.
+fn run(rt: &HostRuntime, words: &[&str], script: &[u8]) -> Result<(Status, MemSink), Fail> {
+    let alloc = rt.alloc();
+    let arguments = arguments(alloc, words)?;
     let mut source = PlainSource::new(script.to_vec(alloc)?);
-    let mut sink = MemSink::new(alloc, 65_536, Vec::new(alloc), Vec::new(alloc))?;
+    let mut sink = sink_of(alloc, 65_536)?;
     let status = serve(alloc, &arguments, &mut source, &mut sink);
     Ok((status, sink))
 }
 
+/// A page, and what is written for it as the first line.
 const PAGE: &str = "0 open https://a.example/\n";
+
+const PAGE_TEXT: &str = "1 frame f1 doc d1 https://a.example\n";
+
+/// The script of the tables on faults, of 45 bytes, and its text, of 46.
+const TWO_LINES: &[u8] = b"0 open https://a.example/\n0 policy f1 camera\n";
+
+const TWO_TEXT: &[u8] = b"1 frame f1 doc d1 https://a.example\n2 allowed\n";
 
 #[test]
 fn scripts(rt: HostRuntime) -> Result<(), Fail> {
-    let cases: [(&str, &str, Status); 12] = [
+    let cases: [(&str, &str, Status); 19] = [
         ("", "", Status::Clean),
         ("# note\n \t\n\n", "", Status::Clean),
         (
@@ -35,9 +60,10 @@ fn scripts(rt: HostRuntime) -> Result<(), Fail> {
         ),
         (
             "0 open https://a.example/\n0 embed f1 https://b.example/\n0 embed f2 https://b.example/\n\
-             0 policy f3 camera\n0 policy f3 picture-in-picture\n0 policy f3 push\n",
+             0 embed f3 https://a.example/\n0 policy f4 camera\n0 policy f4 picture-in-picture\n0 policy f4 push\n",
             "1 frame f1 doc d1 https://a.example\n2 frame f2 doc d2 https://b.example\n\
-             3 frame f3 doc d3 https://b.example\n4 denied default d2\n5 allowed\n6 refused syntax\n",
+             3 frame f3 doc d3 https://b.example\n4 frame f4 doc d4 https://a.example\n5 denied default d2\n\
+             6 allowed\n7 refused syntax\n",
             Status::Refusals,
         ),
         (
@@ -59,14 +85,47 @@ fn scripts(rt: HostRuntime) -> Result<(), Fail> {
         ),
         ("0 fly\n", "1 refused syntax\n", Status::Refusals),
         (
-            "1 open https://a.example/\n0 open none\n0 open \"https://a.example/\"\n0 policy f01 camera\n0 policy f camera\n",
-            "1 refused syntax\n2 refused syntax\n3 refused syntax\n4 refused syntax\n5 refused syntax\n",
+            "1 open https://a.example/\n0 open none\n\"0\" open https://a.example/\n0 \"open\" https://a.example/\n\
+             0 policy f01 camera\n0 policy f camera\n0 policy f0 camera\n0 policy f1 Camera\n0 policy f1 \"camera\"\n",
+            "1 refused syntax\n2 refused syntax\n3 refused syntax\n4 refused syntax\n5 refused syntax\n\
+             6 refused syntax\n7 refused syntax\n8 refused syntax\n9 refused syntax\n",
+            Status::Refusals,
+        ),
+        (
+            "0 open \"https://a.example/\"\n0 embed f1 \"https://b.example/\"\n0 open \"none\"\n0 embed f1 \"none\"\n0 embed f1 none\n",
+            "1 frame f1 doc d1 https://a.example\n2 frame f2 doc d2 https://b.example\n3 refused url\n4 refused url\n5 refused syntax\n",
             Status::Refusals,
         ),
         (
             "0 open about:blank\n\n0 policy f1 camera\n0 policy f2 camera\n",
             "1 frame f1 doc d1 opaque:d1\n3 allowed\n4 refused unknown\n",
             Status::Refusals,
+        ),
+        (
+            "0 open https://a.example/ header \"camera=()\"\n0 embed f1 https://b.example/ allow camera\n0 policy f1 fly\n",
+            "1 refused syntax\n2 refused syntax\n3 refused syntax\n",
+            Status::Refusals,
+        ),
+        (
+            "0 open https://a.example/\x01\n# \x01\n",
+            "1 refused bad-byte\n",
+            Status::Refusals,
+        ),
+        ("\r", "", Status::Clean),
+        (
+            "0 open nonsense\r\r\n0 open nonsense\r",
+            "1 refused bad-byte\n2 refused url\n",
+            Status::Refusals,
+        ),
+        (
+            "0 open https://a.example/\n0 policy f1 camera x\n",
+            "1 frame f1 doc d1 https://a.example\n2 refused syntax\n",
+            Status::Refusals,
+        ),
+        (
+            "\t 0\topen  https://a.example/ \n0 policy f1 camera\n",
+            "1 frame f1 doc d1 https://a.example\n2 allowed\n",
+            Status::Clean,
         ),
     ];
     for (script, text, wanted) in cases {
@@ -78,43 +137,189 @@ fn scripts(rt: HostRuntime) -> Result<(), Fail> {
 }
 
 #[test]
-fn other_words(rt: HostRuntime) -> Result<(), Fail> {
+fn words(rt: HostRuntime) -> Result<(), Fail> {
     let usage = b"usage: permissions run [MS] | generate SEED COUNT | check\n";
-    let cases: [&[&str]; 5] = [&[], &["run", "0"], &["run", "run"], &["Run"], &["check"]];
-    for words in cases {
+    let wrong: [&[&str]; 12] = [
+        &[],
+        &["run", "0"],
+        &["run", "05"],
+        &["run", "60001"],
+        &["run", "100000"],
+        &["run", "+5"],
+        &["run", ""],
+        &["run", "run"],
+        &["run", "5", "5"],
+        &["Run"],
+        &["check"],
+        &["generate", "7", "7"],
+    ];
+    for words in wrong {
         let (status, sink) = run(&rt, words, PAGE.as_bytes())?;
         assert_eq!(rt; sink.as_slice(), usage.as_slice());
         assert_eq!(rt; status, Status::Words);
+    }
+    let right: [&[&str]; 3] = [&["run"], &["run", "1"], &["run", "60000"]];
+    for words in right {
+        let (status, sink) = run(&rt, words, PAGE.as_bytes())?;
+        assert_eq!(rt; sink.as_slice(), PAGE_TEXT.as_bytes());
+        assert_eq!(rt; status, Status::Clean);
+    }
+    Ok(())
+}
+
+/// A list of so many ones.
+fn ones(alloc: Global, count: usize) -> Result<Vec<usize>, Fail> {
+    Ok(vec![in alloc; 1; count]?)
+}
+
+#[test]
+fn failing_reads(rt: HostRuntime) -> Result<(), Fail> {
+    let alloc = rt.alloc();
+    for call in 0..=46u64 {
+        let mut source = MemSource::new(
+            TWO_LINES.to_vec(alloc)?,
+            ones(alloc, 46)?,
+            vec![in alloc; call]?,
+        );
+        let mut sink = sink_of(alloc, 46)?;
+        let status = run_within(alloc, 5000, 1_073_741_824, &mut source, &mut sink);
+        let (text, wanted) = match call {
+            0..=25 => (b"".as_slice(), Status::ReadFault),
+            26..=44 => (PAGE_TEXT.as_bytes(), Status::ReadFault),
+            45 => (TWO_TEXT, Status::ReadFault),
+            _ => (TWO_TEXT, Status::Clean),
+        };
+        assert_eq!(rt; sink.as_slice(), text, "call {call}");
+        assert_eq!(rt; status, wanted, "call {call}");
     }
     Ok(())
 }
 
 #[test]
-fn faults(rt: HostRuntime) -> Result<(), Fail> {
+fn failing_writes(rt: HostRuntime) -> Result<(), Fail> {
     let alloc = rt.alloc();
-    let words = [String::from_str(alloc, "run")?];
-    let mut source = MemSource::new(
-        PAGE.as_bytes().to_vec(alloc)?,
-        vec![in alloc; 9]?,
-        vec![in alloc; 1]?,
-    );
-    let mut sink = MemSink::new(alloc, 100, Vec::new(alloc), Vec::new(alloc))?;
-    let status = serve(alloc, &words, &mut source, &mut sink);
-    assert_eq!(rt; status, Status::ReadFault);
-    assert!(rt; sink.as_slice().is_empty());
-    let mut source = PlainSource::new(PAGE.as_bytes().to_vec(alloc)?);
-    let mut sink = MemSink::new(alloc, 3, Vec::new(alloc), Vec::new(alloc))?;
-    let status = serve(alloc, &words, &mut source, &mut sink);
-    assert_eq!(rt; status, Status::WriteFault);
-    assert_eq!(rt; sink.as_slice(), b"1 f".as_slice());
+    for room in 0..=46usize {
+        let mut source = PlainSource::new(TWO_LINES.to_vec(alloc)?);
+        let mut sink = sink_of(alloc, room)?;
+        let status = run_within(alloc, 5000, 1_073_741_824, &mut source, &mut sink);
+        let wanted = if room == 46 {
+            Status::Clean
+        } else {
+            Status::WriteFault
+        };
+        assert_eq!(rt; sink.as_slice(), &TWO_TEXT[..room], "room {room}");
+        assert_eq!(rt; status, wanted, "room {room}");
+    }
+    for call in 0..=10usize {
+        let mut source = PlainSource::new(TWO_LINES.to_vec(alloc)?);
+        let mut sink = MemSink::new(alloc, 46, ones(alloc, 11)?, vec![in alloc; call as u64]?)?;
+        let status = run_within(alloc, 5000, 1_073_741_824, &mut source, &mut sink);
+        assert_eq!(rt; sink.as_slice(), &TWO_TEXT[..call], "call {call}");
+        assert_eq!(rt; status, Status::WriteFault, "call {call}");
+    }
     Ok(())
 }
 
 #[test]
-fn longer_than_the_limit(rt: HostRuntime) -> Result<(), Fail> {
-    let script = vec![in rt.alloc(); b'\n'; 8_388_609]?;
-    let (status, sink) = run(&rt, &["run"], &script)?;
-    assert_eq!(rt; status, Status::InputTooLong);
-    assert!(rt; sink.as_slice().is_empty());
+fn limits_of_the_input(rt: HostRuntime) -> Result<(), Fail> {
+    let alloc = rt.alloc();
+    for limit in 0..=45u64 {
+        let mut source = PlainSource::new(TWO_LINES.to_vec(alloc)?);
+        let mut sink = sink_of(alloc, 46)?;
+        let status = run_within(alloc, 5000, limit, &mut source, &mut sink);
+        let (text, wanted) = match limit {
+            0..=25 => (b"".as_slice(), Status::InputTooLong),
+            26..=44 => (PAGE_TEXT.as_bytes(), Status::InputTooLong),
+            _ => (TWO_TEXT, Status::Clean),
+        };
+        assert_eq!(rt; sink.as_slice(), text, "limit {limit}");
+        assert_eq!(rt; status, wanted, "limit {limit}");
+    }
+    Ok(())
+}
+
+/// The second read fails, into a sink with room and into one without.
+#[test]
+fn text_is_written_before_the_next_read(rt: HostRuntime) -> Result<(), Fail> {
+    let alloc = rt.alloc();
+    for (room, wanted, faults) in [(100, Status::ReadFault, 1), (0, Status::WriteFault, 0)] {
+        let mut source = MemSource::new(
+            TWO_LINES.to_vec(alloc)?,
+            vec![in alloc; 26]?,
+            vec![in alloc; 1]?,
+        );
+        let mut sink = sink_of(alloc, room)?;
+        let status = run_within(alloc, 5000, 1_073_741_824, &mut source, &mut sink);
+        let text = if room == 0 { "" } else { PAGE_TEXT };
+        assert_eq!(rt; sink.as_slice(), text.as_bytes());
+        assert_eq!(rt; status, wanted);
+        assert_eq!(rt; source.count(), faults);
+    }
+    Ok(())
+}
+
+#[test]
+fn long_lines(rt: HostRuntime) -> Result<(), Fail> {
+    let alloc = rt.alloc();
+    for (letters, end, text) in [
+        (16_383, "\n", ""),
+        (16_384, "\n", "1 refused line-too-long\n"),
+        (16_383, "\r\n", ""),
+        (16_384, "\r\n", "1 refused line-too-long\n"),
+        (16_383, "\r", ""),
+        (16_384, "", "1 refused line-too-long\n"),
+    ] {
+        let mut comment = vec![in alloc; b'#']?;
+        comment.extend_from_slice(&vec![in alloc; b'x'; letters]?)?;
+        comment.extend_from_slice(end.as_bytes())?;
+        let (_, sink) = run(&rt, &["run"], &comment)?;
+        assert_eq!(rt;
+            sink.as_slice(),
+            text.as_bytes(),
+            "a comment with {letters} letters and {end:?}"
+        );
+    }
+    Ok(())
+}
+
+/// So many copies of a line.
+fn copies(alloc: Global, line: &str, count: usize) -> Result<Vec<u8>, Fail> {
+    let mut script = Vec::new(alloc);
+    for _ in 0..count {
+        script.extend_from_slice(line.as_bytes())?;
+    }
+    Ok(script)
+}
+
+#[test]
+fn limits_of_pages_and_frames(rt: HostRuntime) -> Result<(), Fail> {
+    let alloc = rt.alloc();
+    let (_, sink) = run(&rt, &["run"], &copies(alloc, PAGE, 65)?)?;
+    assert!(rt;
+        sink.as_slice().ends_with(
+            b"64 frame f64 doc d64 https://a.example\n65 refused limit-pages\n"
+        )
+    );
+    let mut frames = PAGE.as_bytes().to_vec(alloc)?;
+    frames.extend_from_slice(&copies(alloc, "0 embed f1 https://b.example/\n", 256)?)?;
+    frames.extend_from_slice(b"0 open https://a.example/\n0 embed f257 https://b.example/\n")?;
+    let (_, sink) = run(&rt, &["run"], &frames)?;
+    assert!(rt;
+        sink.as_slice().ends_with(
+            b"256 frame f256 doc d256 https://b.example\n257 refused limit-frames\n\
+          258 frame f257 doc d257 https://a.example\n259 frame f258 doc d258 https://b.example\n"
+        )
+    );
+    let mut deep = PAGE.as_bytes().to_vec(alloc)?;
+    for parent in 1..=64 {
+        let line = format!(in alloc; "0 embed f{parent} https://a.example/\n")?;
+        deep.extend_from_slice(line.as_bytes())?;
+    }
+    let (_, sink) = run(&rt, &["run"], &deep)?;
+    assert!(rt;
+        sink.as_slice().ends_with(
+            b"64 frame f64 doc d64 https://a.example\n65 refused limit-depth\n"
+        )
+    );
     Ok(())
 }

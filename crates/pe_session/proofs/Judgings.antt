@@ -1,0 +1,147 @@
+-- How a line is judged.
+use Rattle.std.proofs.Common.{◌≡◌, ℕ, Bool, true, false, List, [], ◌∷◌, ◌++◌, Option, Some, None, Result, Ok, Err, IfOk, refl, sym, ◌∙◌, ap, append-nil}
+use Rattle.pe_events.specs.Texts.{answer_text}
+use Rattle.pe_events.specs.declared.answer.Answer.{Answer}
+use Rattle.pe_events.specs.declared.answer.Answer.TheVariants as answer
+use Rattle.pe_events.specs.declared.cause.Cause.{Cause}
+use Rattle.pe_events.specs.declared.event.Event.{Event}
+use Rattle.pe_events.specs.Timed.{Timed}
+use Rattle.pe_script.specs.Reading.{Reading, Silent, Refusal, Says}
+use Rattle.pe_rules.specs.History.{Told, History, clock}
+use Rattle.pe_rules.specs.Causes.{cause_of}
+use Rattle.pe_rules.specs.Changes.{numbers_above, changes_before, changes_after}
+use Rattle.pe_rules.specs.Statuses.{live_statuses}
+use Rattle.pe_rules.specs.Replies.{told, item_of, accepts_in, reply_in, answer_of}
+use Rattle.pe_output.specs.Built.{reading_built}
+use Rattle.pe_output.specs.OutputText.{accepted_text, event_text, line_text, history_after, history_after_line, is_refused}
+use Rattle.pe_session.specs.declared.events.Events.{Events}
+use Rattle.pe_session.specs.declared.reply.Reply.{Reply}
+use Rattle.pe_session.specs.declared.reply.Reply.TheVariants.{FrameMade, Allowed, Denied, Refused}
+use Rattle.pe_session.specs.Keeping.{Keeps}
+use Rattle.pe_session.specs.Judging.{Stands, Judged}
+use Rattle.pe_session.specs.Replying.{step_of, told_reply, is_refusal, IsRefusal, IsAcceptance, IsReply, AnswersWords, AnswersReading}
+use Rattle.pe_session.specs.Saying.{reading_said}
+
+-- ---- what an event at time 0 brings
+
+no-changes-before : (T : Told) → clock T ≡ 0 → changes_before T 0 ≡ []
+unfolding changes_before numbers_above
+no-changes-before T e = rw e refl
+
+no-changes-after : (T U : Told) (events : Events) → Keeps events T → changes_after T U 0 ≡ []
+unfolding changes_after live_statuses
+no-changes-after T U events h = rw h.statuses refl
+
+-- an event at time 0
+abbrev pub at_zero : Event → Timed
+at_zero e = record { time = 0; event = e }
+
+accepted-is : (T : Told) (e : Event) → cause_of T 0 e ≡ None → accepts_in T (at_zero e) ≡ true
+unfolding accepts_in
+accepted-is T e c = rw c refl
+
+refused-is : (T : Told) (e : Event) (why : Cause) → cause_of T 0 e ≡ Some why → accepts_in T (at_zero e) ≡ false
+unfolding accepts_in
+refused-is T e why c = rw c refl
+
+reply-accepted : (duration : ℕ) (T : Told) (e : Event) (said : Answer) → cause_of T 0 e ≡ None → answer_of duration T 0 e ≡ said → reply_in duration T 0 e ≡ said
+unfolding reply_in
+reply-accepted duration T e said c a = rw (c, a) refl
+
+reply-refused : (duration : ℕ) (T : Told) (e : Event) (why : Cause) → cause_of T 0 e ≡ Some why → reply_in duration T 0 e ≡ answer.Refused why
+unfolding reply_in
+reply-refused duration T e why c = rw c refl
+
+text-accepted : (duration number : ℕ) (H : History) (e : Event) (said : Answer) (old : Events) → Keeps old (told duration H) → cause_of (told duration H) 0 e ≡ None → answer_of duration (told duration H) 0 e ≡ said
+    → event_text duration number H (at_zero e) ≡ answer_text number said
+unfolding event_text accepted_text
+text-accepted duration number H e said old h c a =
+    rw (
+      accepted-is (told duration H) e c,
+      no-changes-before (told duration H) h.clock_is,
+      reply-accepted duration (told duration H) e said c a,
+      no-changes-after (told duration H) (told duration (at_zero e ∷ H)) old h,
+    ) (append-nil (answer_text number said))
+
+text-refused : (duration number : ℕ) (H : History) (e : Event) (why : Cause) → cause_of (told duration H) 0 e ≡ Some why → event_text duration number H (at_zero e) ≡ answer_text number (answer.Refused why)
+unfolding event_text
+text-refused duration number H e why c = rw (refused-is (told duration H) e why c, reply-refused duration (told duration H) e why c) refl
+
+history-accepted : (duration : ℕ) (H : History) (e : Event) → cause_of (told duration H) 0 e ≡ None → history_after duration H (at_zero e) ≡ at_zero e ∷ H
+unfolding history_after
+history-accepted duration H e c = rw (accepted-is (told duration H) e c) refl
+
+history-refused : (duration : ℕ) (H : History) (e : Event) (why : Cause) → cause_of (told duration H) 0 e ≡ Some why → history_after duration H (at_zero e) ≡ H
+unfolding history_after
+history-refused duration H e why c = rw (refused-is (told duration H) e why c) refl
+
+told-more : (duration : ℕ) (H : History) (e : Event) → told duration (at_zero e ∷ H) ≡ step_of e (item_of duration (told duration H) 0 e) ∷ told duration H
+unfolding told
+told-more duration H e = refl
+
+-- ---- lines
+
+pub judged-silent : (duration : ℕ) (events : Events) (number : ℕ) (H : History) (line : Option (List ℕ)) (out : List ℕ) → Stands duration events H → reading_built line ≡ Silent
+    → Judged duration events number H line out out false
+unfolding line_text history_after_line is_refused
+judged-silent duration events number H line out h e = record {
+  stands = rw e h;
+  text = rw e (sym (append-nil out));
+  refused_is = rw e refl;
+}
+
+judged-refusal : (duration : ℕ) (events : Events) (number : ℕ) (H : History) (line : Option (List ℕ)) (out new : List ℕ) (why : Cause) → Stands duration events H → reading_built line ≡ Refusal why
+    → new ≡ out ++ answer_text number (answer.Refused why) → Judged duration events number H line out new true
+unfolding line_text history_after_line is_refused
+judged-refusal duration events number H line out new why h e text = record {
+  stands = rw e h;
+  text = rw e text;
+  refused_is = rw e refl;
+}
+
+judged-refused : (duration : ℕ) (events : Events) (number : ℕ) (H : History) (line : Option (List ℕ)) (out new : List ℕ) (e : Event) (why : Cause) → reading_built line ≡ Says (at_zero e)
+    → IsRefusal (told duration H) e events why → new ≡ out ++ answer_text number (answer.Refused why) → Judged duration events number H line out new true
+unfolding line_text history_after_line is_refused
+judged-refused duration events number H line out new e why says r text = record {
+  stands = rw (says, history-refused duration H e why r.cause) r.kept;
+  text = rw (says, text-refused duration number H e why r.cause) text;
+  refused_is = rw (says, refused-is (told duration H) e why r.cause) refl;
+}
+
+judged-accepted : (duration : ℕ) (old events : Events) (number : ℕ) (H : History) (line : Option (List ℕ)) (out new : List ℕ) (e : Event) (said : Answer) → Stands duration old H → reading_built line ≡ Says (at_zero e)
+    → IsAcceptance duration (told duration H) e events said → new ≡ out ++ answer_text number said → Judged duration events number H line out new false
+unfolding line_text history_after_line is_refused
+judged-accepted duration old events number H line out new e said h says a text = record {
+  stands = rw (says, history-accepted duration H e a.cause, told-more duration H e) (a.kept (item_of duration (told duration H) 0 e));
+  text = rw (says, text-accepted duration number H e said old h a.cause a.answer_is) text;
+  refused_is = rw (says, accepted-is (told duration H) e a.cause) refl;
+}
+
+judged-says : (duration : ℕ) (old events : Events) (number : ℕ) (H : History) (line : Option (List ℕ)) (out new : List ℕ) (e : Event) (reply : Reply) → Stands duration old H → reading_built line ≡ Says (at_zero e)
+    → IsReply duration (told duration H) e events reply → new ≡ out ++ answer_text number (told_reply reply) → Judged duration events number H line out new (is_refusal reply)
+judged-says duration old events number H line out new e (Refused why) h says r text = judged-refused duration events number H line out new e why says r text
+judged-says duration old events number H line out new e (FrameMade made origin) h says r text = judged-accepted duration old events number H line out new e _ h says r text
+judged-says duration old events number H line out new e Allowed h says r text = judged-accepted duration old events number H line out new e _ h says r text
+judged-says duration old events number H line out new e (Denied at) h says r text = judged-accepted duration old events number H line out new e _ h says r text
+
+pub judged-reply : (duration : ℕ) (old events : Events) (number : ℕ) (H : History) (line : Option (List ℕ)) (out new : List ℕ) (reading : Reading) (reply : Reply) → Stands duration old H → reading_built line ≡ reading
+    → AnswersReading duration (told duration H) reading events reply → new ≡ out ++ answer_text number (told_reply reply) → Judged duration events number H line out new (is_refusal reply)
+judged-reply duration old events number H line out new Silent reply h is r text = absurd r
+judged-reply duration old events number H line out new (Refusal why) reply h is r text =
+    rw r.0 (judged-refusal duration events number H line out new why r.1 is (rw r.0 at text))
+judged-reply duration old events number H line out new (Says e) reply h is r text =
+    judged-says duration old events number H line out new e.event reply h (is ∙ ap (λ t. Says (record { time = t; event = e.event })) r.0) r.1 text
+
+-- ---- words
+
+pub words-answered : (duration : ℕ) (T : Told) (o : Option Event) (events : Events) (reply : Reply) → AnswersWords duration T o events reply → AnswersReading duration T (reading_said o) events reply
+words-answered duration T None events reply a = a
+words-answered duration T (Some e) events reply a = (refl, a)
+
+pub ok-more : {A E : Type 0} (r : Result A E) (P Q : A → Type 0) → ((x : A) → P x → Q x) → IfOk r P → IfOk r Q
+ok-more (Ok x) P Q f h = f x h
+ok-more (Err e) P Q f h = tt
+
+pub not-true : (b : Bool) → (b ≡ true → ⊥) → b ≡ false
+not-true true h = absurd (h refl)
+not-true false h = refl

@@ -1,0 +1,12 @@
+pub mod Digits
+pub mod Texts
+pub mod Stretches
+pub mod Outcomes
+pub mod Clauses
+pub mod Older
+pub mod Crossings
+pub mod Opening
+pub mod Growing
+pub mod Replies
+pub mod Sayings
+pub mod Judgings

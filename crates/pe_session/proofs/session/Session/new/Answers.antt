@@ -1,0 +1,18 @@
+use Rattle.std.proofs.Common.{[], refl}
+use Rattle.pe_lines.specs.Lines.{told_ended_lines, ended_lines}
+use Rattle.pe_output.specs.OutputText.{refuses_from}
+use Rattle.pe_rules.specs.Replies.{told}
+use Rattle.pe_session.proofs.Stretches.{Cuts-none}
+use Rattle.pe_session.proofs.session.Session.new.Goals as goal
+
+pub returns : goal.returns
+unfolding told_ended_lines ended_lines refuses_from told
+returns c = λ duration. record {
+  cuts = rw c.new.ensures.bytes (Cuts-none []);
+  none = rw c.new.ensures.bytes refl;
+  open_still = c.new.ensures.open;
+  number = refl;
+  stands = c.new-2.ensures;
+  refused_is = refl;
+  empty = c.new-3.ensures.items;
+}

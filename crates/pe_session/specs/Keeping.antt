@@ -1,0 +1,80 @@
+-- What is kept of the accepted events, so that later lines can be judged.
+-- This project's own.
+-- Each frame of these histories is live and has the one document that was made with it, which has the frame's number.
+use Rattle.std.specs.Prelude.{◌≡◌, ℕ, zero, suc, ◌+◌, ◌≤◌, true, false, not, List, [], ◌∷◌, ◌++◌, length, get_or, Option, Some, None, option_to_list}
+use Rattle.std.specs.Option.{option_or}
+use Rattle.pe_features.specs.declared.feature.Feature.{Feature}
+use Rattle.pe_origin.specs.Origins.{is_same_origin}
+use Rattle.pe_policy.specs.Links.{Link}
+use Rattle.pe_rules.specs.History.{Told, when, each, clock}
+use Rattle.pe_rules.specs.Numbering.{is_frame, last_document}
+use Rattle.pe_rules.specs.Embedders.{chain, page}
+use Rattle.pe_rules.specs.Current.{is_current}
+use Rattle.pe_rules.specs.Origins.{origin_of, sandbox_flag}
+use Rattle.pe_rules.specs.Denials.{link, links}
+use Rattle.pe_rules.specs.Statuses.{Status, status_by}
+use Rattle.pe_rules.specs.Causes.{live_pages, live_frames}
+use Rattle.pe_session.specs.declared.events.Frame.{Frame}
+use Rattle.pe_session.specs.declared.events.Events.{Events}
+
+-- a document with neither a declared policy nor a container policy
+pub record IsPlain (x : Link) : Type 0 where
+  pub declared : (f : Feature) → x.declared f ≡ None
+  pub container : (f : Feature) → x.container f ≡ None
+
+-- the links are plain ones
+abbrev pub ArePlain : List Link → Type 0
+ArePlain [] = Unit {0}
+ArePlain (x ∷ xs) = IsPlain x × ArePlain xs
+
+-- the first document, nearest the top, that is not same origin with its embedder
+abbrev pub first_crossing : List Link → Option ℕ
+first_crossing [] = None
+first_crossing (x ∷ []) = None
+first_crossing (p ∷ c ∷ rest) = let later = first_crossing (c ∷ rest) in option_or (when (not (is_same_origin c.origin p.origin)) c.document) later
+
+-- what is kept of the frame of this number
+pub record IsKept (T : Told) (k : ℕ) (frame : Frame) : Type 0 where
+  pub made : is_frame T k ≡ true
+  pub document : last_document T k ≡ Some k
+  pub current : is_current T k ≡ true
+  pub top : page T k ≡ frame.page + 1
+  pub below : frame.page + 1 ≤ k
+  pub depth : length (chain T k) ≡ frame.depth
+  pub shallow : frame.depth ≤ 64
+  pub origin : origin_of T k ≡ frame.origin
+  pub flag : sandbox_flag T k ≡ false
+  pub above : (before : List Link) × (links T k ≡ before ++ link T k ∷ [])
+  pub plain : ArePlain (links T k)
+  pub crossing : first_crossing (links T k) ≡ frame.crossing
+
+-- what is kept of a position: a frame, or that it makes none
+abbrev pub IsKeptAt : Told → ℕ → Option Frame → Type 0
+IsKeptAt T k None = is_frame T k ≡ false
+IsKeptAt T k (Some frame) = IsKept T k frame
+
+-- the frame of this number
+abbrev pub frame_numbered : List (Option Frame) → ℕ → Option Frame
+frame_numbered frames zero = None
+frame_numbered frames (suc i) = get_or frames i None
+
+-- the statuses that the steps made
+abbrev pub statuses_made : Told → List Status
+statuses_made T = each (λ s B. option_to_list (status_by s.event B (length (s ∷ B)))) T
+
+-- frames, sizes of pages and a count of pages are those of the steps, which all happened at time 0 and made no status
+pub record AreKept (frames : List (Option Frame)) (sizes : List ℕ) (pages : ℕ) (T : Told) : Type 0 where
+  pub count : length frames ≡ length T
+  pub few : length T ≤ 1000000
+  pub sized : length sizes ≡ length T
+  pub at : (i : ℕ) → IsKeptAt T (i + 1) (get_or frames i None)
+  pub size : (i : ℕ) → get_or sizes i 0 ≡ length (live_frames T (i + 1))
+  pub small : (i : ℕ) → get_or sizes i 0 ≤ 256
+  pub pages_are : pages ≡ length (live_pages T)
+  pub few_pages : pages ≤ 64
+  pub clock_is : clock T ≡ 0
+  pub statuses : statuses_made T ≡ []
+
+-- what is kept of the steps
+abbrev pub Keeps : Events → Told → Type 0
+Keeps events T = AreKept events.frames.items events.sizes.items events.pages T

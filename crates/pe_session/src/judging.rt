@@ -1,0 +1,78 @@
+//! Judges lines.
+ghost use Rattle.std.specs.Prelude.{◌≡◌, ℕ, IfOk, Some, false};
+ghost use Rattle.pe_lines.specs.Cutting.{told};
+ghost use Rattle.pe_rules.specs.History.{History, Told};
+ghost use Rattle.pe_output.specs.Built.{reading_built};
+ghost use Rattle.pe_session.specs.Judging.{Stands, Judged};
+ghost use Rattle.pe_session.specs.Keeping.{Keeps};
+ghost use Rattle.pe_session.specs.Replying.{AnswersWords, AnswersReading};
+ghost use Rattle.pe_session.specs.Saying.{is_silent, event_built};
+
+use crate::events::Events;
+use crate::reading::{Said, is_silent, read_words};
+use crate::reply::{Reply, put_reply};
+use pe_events::Cause;
+use pe_lines::{Cut, Word, WordFault, words};
+use std::alloc::AllocError;
+
+/// Judges the line of this number, puts its text behind the others, and answers whether it is refused.
+pub fn judge(
+    events: &mut Events,
+    number: u64,
+    line: Cut<'_>,
+    out: &mut Vec<u8>,
+) -> Result<bool, AllocError>
+    ensures ok { (duration : ℕ) (H : History) → Stands duration events.old H → IfOk result (λ refused.
+        Judged duration events.new number H (told line.entry) out.old.items out.new.items refused) }
+{
+    match line {
+        Cut::TooLong => {
+            let reply = Reply::Refused {
+                cause: Cause::LineTooLong,
+            };
+            put_reply(events.alloc, number, &reply, out)?;
+            Ok(true)
+        }
+        Cut::Bytes(line) => {
+            if is_silent(line) {
+                return Ok(false);
+            }
+            let reply = answer(events, line)?;
+            put_reply(events.alloc, number, &reply, out)?;
+            Ok(reply.is_refused())
+        }
+    }
+}
+
+/// What a line is answered that is neither blank nor a comment.
+fn answer(events: &mut Events, line: &[u8]) -> Result<Reply, AllocError>
+    requires { is_silent line.now ≡ false }
+    ensures { (duration : ℕ) (T : Told) → Keeps events.old T
+        → IfOk result (AnswersReading duration T (reading_built (Some line.now)) events.new) }
+{
+    match words(events.alloc, line) {
+        Ok(words) => answer_words(events, &words),
+        Err(WordFault::BadByte) => Ok(Reply::Refused {
+            cause: Cause::BadByte,
+        }),
+        Err(WordFault::Syntax) => Ok(Reply::Refused {
+            cause: Cause::Syntax,
+        }),
+        Err(WordFault::Memory) => Err(AllocError),
+    }
+}
+
+/// What the words of a line are answered.
+fn answer_words(events: &mut Events, words: &[Word<'_>]) -> Result<Reply, AllocError>
+    ensures { (duration : ℕ) (T : Told) → Keeps events.old T
+        → IfOk result (AnswersWords duration T (event_built words.now) events.new) }
+{
+    match read_words(words) {
+        Some(Said::Open { url }) => events.open(url),
+        Some(Said::Embed { parent, url }) => events.embed(parent, url),
+        Some(Said::Policy { frame, default, .. }) => events.policy(frame, default),
+        None => Ok(Reply::Refused {
+            cause: Cause::Syntax,
+        }),
+    }
+}

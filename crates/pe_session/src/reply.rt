@@ -1,0 +1,103 @@
+//! What a line is answered.
+ghost use Rattle.std.specs.Prelude.{◌≡◌, ◌++◌, OnOk};
+ghost use Rattle.pe_events.specs.Texts.{cause_text, answer_words, answer_text};
+ghost use Rattle.pe_session.specs.Replying.{told_reply, is_refusal};
+
+use pe_events::Cause;
+use pe_origin::{Origin, origin_text};
+use std::alloc::{AllocError, Global};
+
+/// What a line is answered.
+#[derive(Drop)]
+pub enum Reply {
+    /// A frame and its document of the same number were made.
+    FrameMade { number: u32, origin: Origin },
+    /// It is allowed.
+    Allowed,
+    /// It is denied by the feature's default allowlist, at this document.
+    Denied { at: u32 },
+    /// The line is refused.
+    Refused { cause: Cause },
+}
+
+/// Why a line is refused, as it is written.
+fn cause_name(cause: Cause) -> &'static str
+    ensures { result.now ≡ cause_text cause }
+{
+    match cause {
+        Cause::LineTooLong => "line-too-long",
+        Cause::BadByte => "bad-byte",
+        Cause::Syntax => "syntax",
+        Cause::LimitEvents => "limit-events",
+        Cause::TimeBack => "time-back",
+        Cause::Unknown => "unknown",
+        Cause::Settled => "settled",
+        Cause::Closed => "closed",
+        Cause::NotShown => "not-shown",
+        Cause::Url => "url",
+        Cause::Feature => "feature",
+        Cause::Call => "call",
+        Cause::Capability => "capability",
+        Cause::OtherPage => "other-page",
+        Cause::LimitPages => "limit-pages",
+        Cause::LimitDepth => "limit-depth",
+        Cause::LimitFrames => "limit-frames",
+        Cause::LimitStatuses => "limit-statuses",
+        Cause::LimitPending => "limit-pending",
+        Cause::LimitStore => "limit-store",
+    }
+}
+
+impl Reply {
+    /// Whether the line is refused.
+    pub fn is_refused(&self) -> bool
+        ensures { result ≡ is_refusal self.now }
+    {
+        match self {
+            Reply::Refused { .. } => true,
+            Reply::FrameMade { .. } | Reply::Allowed | Reply::Denied { .. } => false,
+        }
+    }
+}
+
+/// Puts the words of a reply behind the text.
+#[tactic(auto, unfolding(pe_events::specs::Texts::answer_words))]
+fn put_words(alloc: Global, reply: &Reply, out: &mut Vec<u8>) -> Result<(), AllocError>
+    ensures { OnOk result (out.new.items ≡ out.old.items ++ answer_words (told_reply reply.now)) }
+{
+    match reply {
+        Reply::FrameMade { number, origin } => {
+            let made = format!(in alloc; "frame f{number} doc d{number} ")?;
+            out.extend_from_slice(made.as_bytes())?;
+            let origin = origin_text(alloc, origin)?;
+            out.extend_from_slice(&origin)?;
+            Ok(())
+        }
+        Reply::Allowed => out.extend_from_slice(b"allowed"),
+        Reply::Denied { at } => {
+            let denied = format!(in alloc; "denied default d{at}")?;
+            out.extend_from_slice(denied.as_bytes())
+        }
+        Reply::Refused { cause } => {
+            out.extend_from_slice(b"refused ")?;
+            out.extend_from_slice(cause_name(*cause).as_bytes())
+        }
+    }
+}
+
+/// Puts the line of a reply behind the text.
+#[tactic(auto, unfolding(pe_events::specs::Texts::answer_text))]
+pub fn put_reply(
+    alloc: Global,
+    number: u64,
+    reply: &Reply,
+    out: &mut Vec<u8>,
+) -> Result<(), AllocError>
+    ensures { OnOk result (out.new.items ≡ out.old.items ++ answer_text number (told_reply reply.now)) }
+{
+    let head = format!(in alloc; "{number} ")?;
+    out.extend_from_slice(head.as_bytes())?;
+    put_words(alloc, reply, out)?;
+    out.push(b'\n')?;
+    Ok(())
+}
