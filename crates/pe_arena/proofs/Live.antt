@@ -3,7 +3,7 @@ use Rattle.std.proofs.Common.{◌≡◌, ◌≢◌, inl, inr, ℕ, ◌+◌, ◌<
 use Rattle.std.specs.Prelude.{◌==◌, IfOk, OnErr}
 use Rattle.std.proofs.lemmas.Bool.Decides.{nat_tests}
 use Rattle.pe_arena.specs.declared.handle.Handle.{Handle}
-use Rattle.pe_arena.specs.Slots.{Slot, Slots, slot_at, mark, value, live, put, holding, emptied, with_value, IsNext, Updates, StayDead}
+use Rattle.pe_arena.specs.Slots.{Slot, Slots, slot_at, mark, value, live, put, holding, with_value, IsNext, Updates, StayDead}
 use Rattle.pe_arena.proofs.Kept.{same_or_not}
 use Rattle.pe_arena.proofs.Lists.{get_or-push_before, get_or-push_last}
 use Rattle.pe_arena.proofs.Seen.{put-within, put-last, get_or-past, live-within, cond-test}
@@ -139,27 +139,8 @@ module _ {T : Type 0} where
       (Writes-holding old h.slot v (next-within old h.slot next)) (Updates-holding old h v next g) (omega arith) (λ lt. absurd (omega arith)))
   insert-dead (Err x) old new v next g e same = subst (λ n. StayDead old n) (sym same) (λ h dead. dead)
 
-  -- a removal writes the slot of a live handle
-  Writes-emptied : (s : Slots T) (h : Handle) → IsSome (live s h) → Writes s (emptied s h.slot) h.slot (record { mark = mark s h.slot; value = None })
-  Writes-emptied s h p = record {
-    here = get_or-set_same s.slots h.slot _ _ (live-within s h p);
-    there = λ j ne. get_or-set_other s.slots h.slot j _ _ ne;
-  }
-
   live-mark : (s : Slots T) (h : Handle) → IsSome (live s h) → mark s h.slot ≡ h.generation + 1
   live-mark s h p = named-mark (slot_at s h.slot) h.generation (subst IsSome (live-named s h) p)
-
-  -- what a removal does to the map of live handles
-  pub remove-updates : (s : Slots T) (h : Handle) → IsSome (live s h) → Updates s (emptied s h.slot) h None
-  remove-updates s h p =
-      let m = live-mark s h p in
-      Updates-write s (emptied s h.slot) h (record { mark = mark s h.slot; value = None }) None (Writes-emptied s h p)
-      (named-none (record { mark = mark s h.slot; value = None }) h.generation refl)
-      (λ k ne. named-none (record { mark = mark s h.slot; value = None }) k refl ∙ sym (named-other (slot_at s h.slot) k (omega arith)))
-
-  pub remove-dead : (s : Slots T) (h : Handle) → IsSome (live s h) → StayDead s (emptied s h.slot)
-  remove-dead s h p =
-      StayDead-write s (emptied s h.slot) h (record { mark = mark s h.slot; value = None }) None (Writes-emptied s h p) (remove-updates s h p) (omega arith) (λ lt. refl)
 
   -- what a write through `get_mut` does to the map of live handles
   pub write-updates : (s : Slots T) (h : Handle) (v : T) → IsSome (live s h) → Updates s (with_value s h.slot v) h (Some v)
@@ -211,3 +192,7 @@ module _ {T : Type 0} where
         ∙ ap (mark s) (sym e)
     | inr ne ↦ ap (λ (x : Slot T). x.mark) (get_or-set_other s.slots h.slot j (record { mark = mark s h.slot; value = Some v }) (record { mark = s.first; value = None }) ne)
   ]
+
+  -- a handle whose generation is its slot's mark is not live
+  pub unlive-next : (s : Slots T) (h : Handle) → h.generation ≡ mark s h.slot → live s h ≡ None
+  unlive-next s h e = live-named s h ∙ named-other (slot_at s h.slot) h.generation (omega arith)

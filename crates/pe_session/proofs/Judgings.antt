@@ -13,7 +13,7 @@ use Rattle.pe_rules.specs.Changes.{numbers_above, changes_before, changes_after}
 use Rattle.pe_rules.specs.Statuses.{live_statuses}
 use Rattle.pe_rules.specs.Replies.{told, item_of, accepts_in, reply_in, answer_of}
 use Rattle.pe_output.specs.Built.{reading_built}
-use Rattle.pe_output.specs.OutputText.{accepted_text, event_text, line_text, history_after, history_after_line, is_refused}
+use Rattle.pe_output.specs.OutputText.{event_text, line_text, history_after, history_after_line, is_refused}
 use Rattle.pe_session.specs.declared.events.Events.{Events}
 use Rattle.pe_session.specs.declared.reply.Reply.{Reply}
 use Rattle.pe_session.specs.declared.reply.Reply.TheVariants.{FrameMade, Allowed, Denied, Refused}
@@ -54,7 +54,7 @@ reply-refused duration T e why c = rw c refl
 
 text-accepted : (duration number : ℕ) (H : History) (e : Event) (said : Answer) (old : Events) → Keeps old (told duration H) → cause_of (told duration H) 0 e ≡ None → answer_of duration (told duration H) 0 e ≡ said
     → event_text duration number H (at_zero e) ≡ answer_text number said
-unfolding event_text accepted_text
+unfolding event_text
 text-accepted duration number H e said old h c a =
     rw (
       accepted-is (told duration H) e c,

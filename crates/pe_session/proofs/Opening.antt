@@ -61,17 +61,17 @@ unfolding frame_of
 frame-of-new s T m e = rw (making-new s T m e) refl
 
 -- no header declares nothing, and no `allow` attribute gives nothing
-if-none : {A : Type 0} (b : Bool) (o : Option A) → o ≡ None → (if b then o else None) ≡ None
-if-none true o e = e
-if-none false o e = refl
-
 nothing-declared : (own : Origin) (f : Feature) → declared_policy None own f ≡ None
 unfolding declared_policy
-nothing-declared own f = if-none (is_some (default_of f)) _ refl
+nothing-declared own f = refl
+
+neither : {A : Type 0} (b : Bool) (o : Option A) → o ≡ None → option_or (if b then o else None) None ≡ None
+neither true o e = rw e refl
+neither false o e = refl
 
 nothing-allowed : (embedder : Origin) (declared : DeclaredOrigin) (f : Feature) → container_policy None false embedder declared f ≡ None
 unfolding container_policy list_by_pieces pieces_at ascii_words
-nothing-allowed embedder declared f = if-none (is_some (default_of f)) _ refl
+nothing-allowed embedder declared f = neither (is_some (default_of f)) _ refl
 
 plain-page : (s : Step) (T : Told) (url : List ℕ) → making_by s.event T ≡ Some (page_making url T) → IsPlain (link (s ∷ T) (suc (length T)))
 unfolding link declared_lists container_lists

@@ -41,7 +41,7 @@ built ws None e = refl
 built ws (Some t) e = rw e refl
 
 timed-open : (time verb url : Word) → is_keyword (codes "0") time ≡ true → is_keyword (codes "open") verb ≡ true → timed_of (time ∷ verb ∷ url ∷ []) ≡ Some (record { time = 0; event = event.OpenPage url.text None })
-unfolding timed_of time_of event_of headers
+unfolding timed_of time_of event_of headers options
 timed-open time verb url t v = rw (keyword-bare (codes "0") time t, keyword-bare (codes "open") verb v) refl
 
 then-map : {A B : Type 0} (g : A → B) (o : Option A) → option_and_then (λ f. Some (g f)) o ≡ option_map g o

@@ -1,0 +1,79 @@
+-- How the tree keeps its frames.
+use Rattle.std.specs.Prelude.{◌≡◌, ℕ, ◌-◌, ◌<◌, ◌≤◌, ◌^◌, true, cond, List, [], ◌∷◌, map, length, Option, Some, None, IsSome, unwrap_or, ⊤}
+use Rattle.std.specs.Option.{option_map, option_and_then}
+use Rattle.pe_arena.specs.declared.handle.Handle.{Handle}
+use Rattle.pe_arena.specs.Slots.{Slots, live, mark}
+use Rattle.pe_frames.specs.declared.frames.Row.{Row}
+use Rattle.pe_frames.specs.declared.node.Node.{Node}
+use Rattle.pe_frames.specs.Forest.{Entry, Forest, entry_of, path, has_handle, same_handle, node_in, page_size, page_count}
+
+-- a live frame as it is kept: its handle and its node
+pub record Kept (D : Type 0) : Type 0 where
+  pub handle : Handle
+  pub node : Node D
+
+module _ {D : Type 0} where
+  -- the frame of the handle, if it is live, before these
+  abbrev pub joined : Handle → Option (Node D) → List (Kept D) → List (Kept D)
+  joined h None xs = xs
+  joined h (Some n) xs = record { handle = h; node = n } ∷ xs
+
+  -- the node of a live handle
+  abbrev pub shown : Slots (Row D) → Handle → Option (Node D)
+  shown s h = option_map (λ r. r.node) (live s h)
+
+  -- the live frames of the handles, the last one first, before these
+  unfoldable pub kept : Slots (Row D) → List Handle → List (Kept D) → List (Kept D)
+  kept s [] xs = xs
+  kept s (h ∷ hs) xs = kept s hs (joined h (shown s h) xs)
+
+  -- the path to the frame, if there is one
+  abbrev pub above_in : List (Entry D) → Option Handle → List Handle
+  above_in es p = unwrap_or (option_map path (option_and_then (entry_of es) p)) []
+
+  -- the frame, where these stand behind it
+  abbrev pub entry_in : List (Entry D) → Kept D → Entry D
+  entry_in es x = record { handle = x.handle; above = above_in es x.node.parent; frame = x.node.frame; doc = x.node.doc }
+
+  -- the frames, newest first: a frame stands before the one that embeds it
+  abbrev pub entries_in : List (Kept D) → List (Entry D)
+  entries_in [] = []
+  entries_in (x ∷ xs) = entry_in (entries_in xs) x ∷ entries_in xs
+
+  -- each node says of its frame what the list says
+  abbrev pub AreNodes : List (Kept D) → Type 0
+  AreNodes [] = ⊤
+  AreNodes (x ∷ xs) = (node_in (entry_in (entries_in xs) x) ≡ x.node) × AreNodes xs
+
+  -- the node that is kept for the handle
+  abbrev pub node_at : List (Kept D) → Handle → Option (Node D)
+  node_at [] h = None
+  node_at (x ∷ xs) h = cond (same_handle x.handle h) (Some x.node) (node_at xs h)
+
+  -- no handle is kept twice
+  abbrev pub AreApart : List (Kept D) → Type 0
+  AreApart [] = ⊤
+  AreApart (x ∷ xs) = (node_at xs x.handle ≡ None) × AreApart xs
+
+  -- the row of a top frame has the size of its page, which is within the limit
+  pub record IsSized (es : List (Entry D)) (h : Handle) (r : Row D) : Type 0 where
+    pub size : r.size ≡ page_size es h
+    pub within : r.size ≤ 256
+
+  -- what contracts see of nodes in this order of making
+  abbrev pub forest_in : Slots (Row D) → List Handle → Forest D
+  forest_in s order = record { entries = entries_in (kept s order []); marks = map (λ x. x.mark) s.slots; made = s.made }
+
+  -- each live handle is listed, each listed one was given, and what the nodes and the count of pages say is so
+  pub record IsForest (s : Slots (Row D)) (order : List Handle) (pages : ℕ) : Type 0 where
+    pub listed : (h : Handle) → IsSome (shown s h) → has_handle h order ≡ true
+    pub given : (h : Handle) → has_handle h order ≡ true → h.generation < mark s h.slot
+    pub nodes : AreNodes (kept s order [])
+    pub apart : AreApart (kept s order [])
+    pub sized : (h : Handle) (r : Row D) → live s h ≡ Some r → r.node.parent ≡ None → IsSized (entries_in (kept s order [])) h r
+    pub shallow : (h : Handle) (n : Node D) → shown s h ≡ Some n → n.depth ≤ 64
+    pub paged : pages ≡ page_count (entries_in (kept s order []))
+    pub few : pages ≤ 64
+    pub counted : length s.slots ≤ s.made
+    pub wide : s.limit ≡ 2 ^ 32 - 1
+    pub first : s.first ≡ 0

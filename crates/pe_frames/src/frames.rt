@@ -1,0 +1,292 @@
+//! The tree of frames.
+ghost use Rattle.std.specs.Prelude.{◌≡◌, ◌≢◌, ◌⊎◌, ◌↔◌, ◌+◌, ◌<◌, ◌≤◌, ◌-◌, ◌^◌, ℕ, IsSome, IsTrue, IfSome, IsSomeAnd, length, [], IfOk, IfErr, OnOk, OnErr, Some, None, Err, option_copied};
+ghost use Rattle.std.specs.Option.{option_map, option_and_then, option_copied_mut};
+ghost use Rattle.std.specs.Borrow.{sem};
+ghost use Rattle.pe_arena.specs.Slots.{live, mark, holding, with_value, IsNext, Updates};
+ghost use Rattle.pe_frames.specs.Forest.{entry_of, node_of, doc_of, parent_of, top_of, page_count, page_size, mark_of, path_of, depth_of, refusal, embed_fault, opened, StayDead};
+
+use crate::node::{Node, Numbered, Place};
+use pe_arena::{Arena, DocRef, Handle, Insert};
+use pe_base::{DEPTH_LIMIT, FRAME_LIMIT, FrameNo, PAGE_LIMIT, Steps};
+use std::alloc::{AllocError, Global};
+use std::marker::Model;
+use std::sync::ledger::Ledger;
+
+/// Why a call of the tree is refused. The tree is then as before, and the given document is dropped.
+#[derive(Clone, Copy, Debug, PartialEq, Eq)]
+pub enum TreeFault {
+    /// The handle names no live frame.
+    Stale,
+    /// The frame that is to embed another has the greatest depth.
+    TooDeep,
+    /// The page has as many frames as it may.
+    TooMany,
+    /// There are as many pages as there may be.
+    TooManyPages,
+    /// Memory wants.
+    Memory,
+}
+
+// What is kept of a frame: its node, and where it is a top frame how many frames its page has.
+#[derive(Drop)]
+struct Row<D> {
+    node: Node<D>,
+    size: u32,
+}
+
+/// The frames of all pages. Contracts see them as a list, newest first, in which each frame stands
+/// with the handles of the frames above it.
+#[derive(Drop)]
+pub struct Frames<D: Numbered> {
+    rows: Arena<Row<D>>,
+    order: Vec<Handle>,
+    pages: u32,
+}
+
+impl<D: Numbered> Model for Frames<D> {
+    ghost use Rattle.pe_frames.specs.Forest.{Forest, forest_code};
+
+    ghost Value = { Forest D };
+
+    ghost coded = { forest_code D.code };
+
+    ghost use Rattle.pe_frames.specs.Kept.{forest_in, IsForest};
+
+    ghost view = { λ f. forest_in f.rows f.order.items };
+
+    ghost invariant = { λ f. IsForest f.rows f.order.items f.pages };
+}
+
+// Takes a row in. Fewer slots were made than the arena may make, so it is never full.
+fn put_row<D: Drop>(rows: &mut Arena<Row<D>>, row: Row<D>) -> Result<Handle, AllocError>
+    requires made { rows.old.made < 2 ^ 32 - 1 }
+    requires slots { length rows.old.slots ≤ rows.old.made }
+    requires limit { rows.old.limit ≡ 2 ^ 32 - 1 }
+    ensures slot { IfOk result (λ h. IsNext rows.old h.slot) }
+    ensures generation { IfOk result (λ h. h.generation ≡ mark rows.old h.slot) }
+    ensures slots { IfOk result (λ h. rows.new ≡ holding rows.old h.slot row) }
+    ensures updates { IfOk result (λ h. Updates rows.old rows.new h (Some row)) }
+    ensures err { OnErr result (rows.new ≡ rows.old) }
+{
+    match rows.insert(row) {
+        Ok(h) => Ok(h),
+        Err(Insert::Memory(_)) => Err(AllocError),
+        Err(Insert::Full(_)) => unreachable!(),
+    }
+}
+
+// Says of the frame that it is the top frame of its page.
+fn name_top<D>(rows: &mut Arena<Row<D>>, h: Handle)
+    requires { IsSome (live rows.old h) }
+    ensures { IfSome (live rows.old h) (λ r. rows.new ≡ with_value rows.old h.slot (record r { node = record r.node { top = h } })) }
+{
+    let row = rows.get_mut(h).unwrap();
+    row.node.top = h;
+}
+
+// Counts one more frame of the page, in the row of its top frame.
+fn grow_page<D>(rows: &mut Arena<Row<D>>, top: Handle)
+    requires live { IsSome (live rows.old top) }
+    requires room { IfSome (live rows.old top) (λ r. r.size ≤ 255) }
+    ensures { IfSome (live rows.old top) (λ r. rows.new ≡ with_value rows.old top.slot (record r { size = r.size + 1 })) }
+{
+    let row = rows.get_mut(top).unwrap();
+    row.size += 1;
+}
+
+impl<D: Numbered> Frames<D> {
+    ghost use Rattle.pe_frames.specs.Lends.{lends_doc, lends_live};
+
+    /// No frame.
+    pub fn new(alloc: Global) -> Frames<D>
+        ensures { result ≡ record { entries = []; marks = []; made = 0 } }
+    {
+        Frames {
+            rows: Arena::new(alloc, u32::MAX, 0),
+            order: Vec::new(alloc),
+            pages: 0,
+        }
+    }
+
+    /// Makes a page, whose top frame shows the document.
+    pub fn open_page(&mut self, frame: FrameNo, doc: D) -> Result<Handle, TreeFault>
+        requires { self.old.made < 2 ^ 32 - 1 }
+        ensures entries { IfOk result (λ h. self.new.entries ≡ opened h [] frame doc self.old.entries) }
+        ensures made { OnOk result (self.new.made ≡ self.old.made + 1) }
+        ensures fresh { IfOk result (λ h. h.generation ≡ mark_of self.old h.slot) }
+        ensures dead { StayDead self.old self.new }
+        ensures too_many_pages { (result ≡ Err TreeFault.TooManyPages) ↔ (page_count self.old.entries ≡ PAGE_LIMIT) }
+        ensures only { IfErr result (λ e. (e ≡ TreeFault.TooManyPages) ⊎ (e ≡ TreeFault.Memory)) }
+        ensures err { OnErr result (self.new ≡ self.old) }
+    {
+        if self.pages == PAGE_LIMIT {
+            return Err(TreeFault::TooManyPages);
+        }
+        if self.order.reserve(1).is_err() {
+            return Err(TreeFault::Memory);
+        }
+        let h = match put_row(
+            &mut self.rows,
+            Row {
+                node: Node::top(frame, doc),
+                size: 1,
+            },
+        ) {
+            Ok(h) => h,
+            Err(_) => return Err(TreeFault::Memory),
+        };
+        name_top(&mut self.rows, h);
+        self.order.push_reserved(h);
+        self.pages += 1;
+        Ok(h)
+    }
+
+    /// Makes a frame below the parent, which embeds it as its last child. The refusals in order:
+    /// `Stale`, `TooDeep`, `TooMany`.
+    pub fn embed(&mut self, parent: Handle, frame: FrameNo, doc: D) -> Result<Handle, TreeFault>
+        requires { self.old.made < 2 ^ 32 - 1 }
+        ensures entries { IfOk result (λ h. self.new.entries ≡ opened h (path_of self.old.entries parent) frame doc self.old.entries) }
+        ensures made { OnOk result (self.new.made ≡ self.old.made + 1) }
+        ensures fresh { IfOk result (λ h. h.generation ≡ mark_of self.old h.slot) }
+        ensures dead { StayDead self.old self.new }
+        ensures fault { refusal result ≡ embed_fault self.old.entries parent }
+        ensures err { OnErr result (self.new ≡ self.old) }
+    {
+        let place = self.place_below(parent)?;
+        if self.order.reserve(1).is_err() {
+            return Err(TreeFault::Memory);
+        }
+        let node = Node::below(parent, place, frame, doc);
+        let h = match put_row(&mut self.rows, Row { node, size: 0 }) {
+            Ok(h) => h,
+            Err(_) => return Err(TreeFault::Memory),
+        };
+        grow_page(&mut self.rows, place.top);
+        self.order.push_reserved(h);
+        Ok(h)
+    }
+
+    // The place of a frame that is to be embedded in the parent.
+    fn place_below(&self, parent: Handle) -> Result<Place, TreeFault>
+        ensures fault { refusal result ≡ embed_fault self.now.entries parent }
+        ensures memory { result ≢ Err TreeFault.Memory }
+        ensures depth { IfOk result (λ p. p.depth ≤ 64) }
+        ensures room { IfOk result (λ p. page_size self.now.entries p.top ≢ FRAME_LIMIT) }
+        ensures place { IfOk result (λ p. IsSomeAnd (entry_of self.now.entries parent) (λ e. p ≡ record { top = top_of e; depth = depth_of e + 1 })) }
+    {
+        let node = match self.find(parent) {
+            Some(node) => node,
+            None => return Err(TreeFault::Stale),
+        };
+        if node.depth == DEPTH_LIMIT {
+            return Err(TreeFault::TooDeep);
+        }
+        if self.page_size(parent) == Some(FRAME_LIMIT) {
+            return Err(TreeFault::TooMany);
+        }
+        Ok(Place {
+            top: node.top,
+            depth: node.depth + 1,
+        })
+    }
+
+    /// How many frames were ever made.
+    pub fn made(&self) -> u64
+        ensures { result ≡ self.now.made }
+    {
+        self.rows.made()
+    }
+
+    /// How many pages there are: the live top frames.
+    pub fn pages(&self) -> u32
+        ensures { result ≡ page_count self.now.entries }
+    {
+        self.pages
+    }
+
+    // The frame of the handle.
+    fn find(&self, h: Handle) -> Option<&Node<D>>
+        ensures value { option_copied result ≡ node_of self.now.entries h }
+        ensures depth { IfSome result (λ n. n.now.depth ≤ 64) }
+    {
+        let row = self.rows.get(h)?;
+        Some(&row.node)
+    }
+
+    /// The frame of the handle; None where it is not live.
+    pub fn node<'f, L: Ledger>(&'f self, h: Handle, steps: &mut Steps<L>) -> Option<&'f Node<D>>
+        ensures value { option_copied result ≡ node_of self.now.entries h }
+        ensures cost { steps.new ≡ steps.old + 1 }
+    {
+        steps.tick();
+        self.find(h)
+    }
+
+    /// The document of this number that the frame shows; None where the frame is not live or shows
+    /// another document.
+    pub fn doc<'f, L: Ledger>(&'f self, r: DocRef, steps: &mut Steps<L>) -> Option<&'f D>
+        ensures value { option_copied result ≡ doc_of D.doc_no self.now.entries r }
+        ensures cost { steps.new ≡ steps.old + 1 }
+    {
+        let node = self.node(r.at, steps)?;
+        if node.doc.number() != r.doc {
+            return None;
+        }
+        Some(&node.doc)
+    }
+
+    /// The document that the frame shows, to write; None where the frame is not live.
+    pub fn doc_mut<'f, L: Ledger>(
+        &'f mut self,
+        h: Handle,
+        steps: &mut Steps<L>,
+    ) -> Option<&'f mut D>
+        ensures* lends { sem 𝓛 (lends_doc D.row D.Numbered self.entry h result) }
+        ensures value { option_copied_mut result ≡ option_map (λ e. e.doc) (entry_of self.old.entries h) }
+        ensures cost { steps.new ≡ steps.old + 1 }
+    {
+        steps.tick();
+        if self.is_live(h) {
+            Some(self.live_doc(h))
+        } else {
+            None
+        }
+    }
+
+    fn is_live(&self, h: Handle) -> bool
+        ensures { IsTrue result ↔ IsSome (entry_of self.now.entries h) }
+    {
+        self.find(h).is_some()
+    }
+
+    fn live_doc(&mut self, h: Handle) -> &mut D
+        requires { IsSome (entry_of self.old.entries h) }
+        ensures* lends { sem 𝓛 (lends_live D.row D.Numbered self.entry h result) }
+        ensures value { option_map (λ e. e.doc) (entry_of self.old.entries h) ≡ Some result.now }
+    {
+        let row = self.rows.get_mut(h).unwrap();
+        &mut row.node.doc
+    }
+
+    /// The frame that embeds the named one; None where that is not live or is a top frame.
+    pub fn parent(&self, h: Handle) -> Option<Handle>
+        ensures { result ≡ option_and_then parent_of (entry_of self.now.entries h) }
+    {
+        self.find(h)?.parent
+    }
+
+    /// The top frame of the named frame's page; None where that is not live.
+    pub fn top(&self, h: Handle) -> Option<Handle>
+        ensures { result ≡ option_map top_of (entry_of self.now.entries h) }
+    {
+        Some(self.find(h)?.top)
+    }
+
+    /// How many frames the page of the named frame has; None where that is not live.
+    pub fn page_size(&self, h: Handle) -> Option<u32>
+        ensures { result ≡ option_map (λ e. page_size self.now.entries (top_of e)) (entry_of self.now.entries h) }
+    {
+        let top = self.top(h)?;
+        Some(self.rows.get(top)?.size)
+    }
+}
