@@ -17,6 +17,7 @@ mod EmbedderHeader
 mod FeaturesOfAPage
 mod FewPrompts
 mod FewStatuses
+mod FirstPage
 mod FrameOfAnotherOrigin
 mod GrantOnce
 mod GreatestDepth
@@ -38,7 +39,11 @@ mod Limits
 mod LineTooLong
 mod LongestLine
 mod MessageToAReplacedDocument
+mod MostFrames
+mod MostFramesText
 mod MostPages
+mod MostStatuses
+mod MostStatusesText
 mod NearestTheTopFirst
 mod NotOfTheGrammar
 mod Nothing
@@ -54,7 +59,9 @@ mod PageAndCamera
 mod PairKeys
 mod PaymentPage
 mod PromptsOfTwoPages
+mod Quiet
 mod RefusedLineMovesNoClock
+mod Repeated
 mod RequestsOfGoneDocuments
 mod SecureContexts
 mod StaleNames

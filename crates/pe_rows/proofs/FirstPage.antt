@@ -1,0 +1,122 @@
+-- A page that the first event opens, and what later lines need of it.
+use Rattle.std.proofs.Common.{◌≡◌, ◌≢◌, ℕ, suc, ◌≤◌, Bool, true, false, List, [], ◌∷◌, ◌++◌, length, map, replicate, codes, Option, Some, None, refl, sym, ◌∙◌, ap, arith}
+use Rattle.pe_lines.specs.Lines.{told_lines}
+use Rattle.pe_events.specs.declared.event.Event.{Event}
+use Rattle.pe_events.specs.declared.event.Event.TheVariants as event
+use Rattle.pe_events.specs.Timed.{Timed}
+use Rattle.pe_rules.specs.History.{Item, Step, Told, History, clock}
+use Rattle.pe_rules.specs.Numbering.{is_frame, last_document}
+use Rattle.pe_rules.specs.Making.{frame_of}
+use Rattle.pe_rules.specs.Embedders.{chain, top_document, page, page_of_frame, depth}
+use Rattle.pe_rules.specs.Current.{is_current, document_in, is_live}
+use Rattle.pe_rules.specs.Origins.{sandbox_flag}
+use Rattle.pe_rules.specs.Changes.{numbers_above, changes_before}
+use Rattle.pe_rules.specs.Replies.{told}
+use Rattle.pe_script.specs.Reading.{Reading, Says, reading_of}
+use Rattle.pe_output.specs.OutputText.{reading_of_told, event_text, history_after, text_from, output_text}
+use Rattle.pe_laws.proofs.Older.{chain-older, frame-older, flag-older}
+use Rattle.pe_rows.proofs.OnLiterals.{output_on_literals}
+use Rattle.pe_rows.proofs.Quiet.{IsQuiet, last-older, is-frame-older, current-stays}
+use Rattle.pe_rows.proofs.Repeated.{text-step, map-repeated}
+
+-- the first line opens a page of a.example
+abbrev pub opening : Timed
+opening = record { time = 0; event = event.OpenPage (codes "https://a.example/") None }
+
+-- an event at time 0, of which this was told
+abbrev pub step : Event → Item → Step
+step e item = record { time = 0; event = e; item = item }
+
+-- frame 1 is a live top frame with the document 1, and nothing happened after time 0
+pub record IsFirstPage (T : Told) : Type 0 where
+  pub begun : 1 ≤ length T
+  pub clock_is : clock T ≡ 0
+  pub made : is_frame T 1 ≡ true
+  pub document : last_document T 1 ≡ Some 1
+  pub current : is_current T 1 ≡ true
+  pub chain_is : chain T 1 ≡ 1 ∷ []
+  pub frame : frame_of T 1 ≡ 1
+  pub flag : sandbox_flag T 1 ≡ false
+
+-- as much was told as happened
+pub length-told : (duration : ℕ) (H : History) → length (told duration H) ≡ length H
+unfolding told
+length-told duration [] = refl
+length-told duration (e ∷ H) = ap suc (length-told duration H)
+
+pub opened : IsFirstPage (told 5000 (opening ∷ []))
+unfolding output_on_literals
+opened = record { begun = omega (arith, length-told 5000 (opening ∷ [])); clock_is = refl; made = refl; document = refl; current = refl; chain_is = refl; frame = refl; flag = refl }
+
+clock-step : (e : Event) (item : Item) (T : Told) → clock (step e item ∷ T) ≡ 0
+unfolding clock
+clock-step e item T = refl
+
+-- an event that ends no document leaves the page
+pub kept : (e : Event) (item : Item) (T : Told) → IsQuiet e → IsFirstPage T → IsFirstPage (step e item ∷ T)
+kept e item T q w =
+    let ne : suc (length T) ≢ 1 = omega (arith, w.begun) in
+    let other : 1 ≢ suc (length T) = omega (arith, w.begun) in
+    record {
+      begun = omega arith;
+      clock_is = clock-step e item T;
+      made = is-frame-older (step e item) T 1 other ∙ w.made;
+      document = last-older (step e item) T 1 q ne ∙ w.document;
+      current = current-stays (step e item) T 1 q w.begun ∙ w.current;
+      chain_is = chain-older (step e item) T 1 w.begun ∙ w.chain_is;
+      frame = frame-older (step e item) T 1 w.begun ∙ w.frame;
+      flag = flag-older (step e item) T 1 w.begun ∙ w.flag;
+    }
+
+pub document-of : (T : Told) → IsFirstPage T → document_in T 1 ≡ Some 1
+unfolding document_in
+document-of T w = rw (w.document, w.current) refl
+
+pub live : (T : Told) → IsFirstPage T → is_live T 1 ≡ true
+unfolding is_live
+live T w = rw (document-of T w) refl
+
+pub page-of : (T : Told) → IsFirstPage T → page T 1 ≡ 1
+unfolding page top_document
+page-of T w = rw w.chain_is w.frame
+
+pub page-of-frame : (T : Told) → IsFirstPage T → page_of_frame T 1 ≡ Some 1
+unfolding page_of_frame
+page-of-frame T w = rw w.document (ap Some (page-of T w))
+
+pub depth-of : (T : Told) → IsFirstPage T → depth T 1 ≡ 1
+unfolding depth
+depth-of T w = rw (w.document, w.chain_is) refl
+
+-- no time passes
+pub nothing-before : (T : Told) → clock T ≡ 0 → changes_before T 0 ≡ []
+unfolding changes_before numbers_above
+nothing-before T at = rw at refl
+
+-- ---- a script of this line, and of one other line that is written again and again
+
+-- the line that opens the page, and its text
+abbrev pub first_line : List ℕ
+first_line = codes "0 open https://a.example/"
+
+abbrev pub first_text : List ℕ
+first_text = codes "1 frame f1 doc d1 https://a.example" ++ 10 ∷ []
+
+reads-first : reading_of first_line ≡ Says opening
+unfolding output_on_literals
+reads-first = refl
+
+first-text : event_text 5000 1 [] opening ≡ first_text
+unfolding output_on_literals
+first-text = refl
+
+first-after : history_after 5000 [] opening ≡ opening ∷ []
+unfolding output_on_literals
+first-after = refl
+
+pub script-text : (script again text : List ℕ) (e : Timed) (n : ℕ) → told_lines script ≡ Some first_line ∷ replicate n (Some again) → reading_of again ≡ Says e
+    → text_from 5000 2 (opening ∷ []) (replicate n (Says e)) ≡ text → output_text 5000 script ≡ first_text ++ text
+unfolding output_text
+script-text script again text e n lines reads is =
+    rw (lines, reads-first, map-repeated reading_of_told n (Some again), reads)
+    (text-step 5000 1 [] opening (replicate n (Says e)) ∙ rw (first-text, first-after, is) refl)
