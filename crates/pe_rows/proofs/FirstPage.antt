@@ -1,5 +1,5 @@
 -- A page that the first event opens, and what later lines need of it.
-use Rattle.std.proofs.Common.{◌≡◌, ◌≢◌, ℕ, suc, ◌≤◌, Bool, true, false, List, [], ◌∷◌, ◌++◌, length, map, replicate, codes, Option, Some, None, refl, sym, ◌∙◌, ap, arith}
+use Rattle.std.proofs.Common.{◌≡◌, ◌≢◌, ℕ, suc, ◌≤◌, true, false, List, [], ◌∷◌, ◌++◌, length, replicate, codes, Some, None, refl, ◌∙◌, ap, arith}
 use Rattle.pe_lines.specs.Lines.{told_lines}
 use Rattle.pe_events.specs.declared.event.Event.{Event}
 use Rattle.pe_events.specs.declared.event.Event.TheVariants as event
@@ -12,7 +12,7 @@ use Rattle.pe_rules.specs.Current.{is_current, document_in, is_live}
 use Rattle.pe_rules.specs.Origins.{sandbox_flag}
 use Rattle.pe_rules.specs.Changes.{numbers_above, changes_before}
 use Rattle.pe_rules.specs.Replies.{told}
-use Rattle.pe_script.specs.Reading.{Reading, Says, reading_of}
+use Rattle.pe_script.specs.Reading.{Says, reading_of}
 use Rattle.pe_output.specs.OutputText.{reading_of_told, event_text, history_after, text_from, output_text}
 use Rattle.pe_laws.proofs.Older.{chain-older, frame-older, flag-older}
 use Rattle.pe_rows.proofs.OnLiterals.{output_on_literals}

@@ -1,10 +1,9 @@
 -- The greatest number of frames of a page, from the bytes of the script to the bytes of the output.
 -- The script is too long to be computed in one theorem: it is proved by induction over how many frames were embedded.
 -- Computed are the readings of its two lines, the text of the first, and the digits of the output.
-use Rattle.std.proofs.Common.{◌≡◌, ◌≢◌, ℕ, zero, suc, ◌+◌, ◌<◌, ◌≤◌, true, false, List, [], ◌∷◌, ◌++◌, length, map, filter, replicate, codes, decimal, Option, Some, None, is_none, option_map, option_to_list, refl, sym, ◌∙◌, ap, arith, append-nil, add-one}
+use Rattle.std.proofs.Common.{◌≡◌, ◌≢◌, ℕ, suc, ◌+◌, ◌<◌, true, false, List, [], ◌∷◌, ◌++◌, length, replicate, codes, decimal, Option, Some, None, is_none, option_map, option_to_list, refl, ◌∙◌, ap, arith, append-nil, add-one}
 use Rattle.std.specs.Fmt.{digits}
 use Rattle.pe_lines.specs.Lines.{lines, told_lines}
-use Rattle.pe_origin.specs.declared.origin.Origin.{Origin}
 use Rattle.pe_origin.specs.Origins.{origin_text}
 use Rattle.pe_origin.specs.Places.{place_at}
 use Rattle.pe_events.specs.declared.answer.Answer.TheVariants as answer
@@ -13,9 +12,9 @@ use Rattle.pe_events.specs.declared.event.Event.{Event}
 use Rattle.pe_events.specs.declared.event.Event.TheVariants as event
 use Rattle.pe_events.specs.Texts.{answer_text, answer_words}
 use Rattle.pe_events.specs.Timed.{Timed}
-use Rattle.pe_rules.specs.History.{Item, Said, Step, Told, History, newest, each, since, clock}
+use Rattle.pe_rules.specs.History.{Item, Said, Step, Told, History, newest, each, since}
 use Rattle.pe_rules.specs.Numbering.{last_document}
-use Rattle.pe_rules.specs.Making.{Making, making_by, making, along, frame_of}
+use Rattle.pe_rules.specs.Making.{Making, making_by, making, along}
 use Rattle.pe_rules.specs.Embedders.{chain, top_document, page, page_of_frame}
 use Rattle.pe_rules.specs.Current.{is_current, document_in, is_live}
 use Rattle.pe_rules.specs.Origins.{origin_of, sandbox_flag, place_or_none, origin_of_place, is_blank_kind}
@@ -24,14 +23,14 @@ use Rattle.pe_rules.specs.Statuses.{Status, status_by, live_statuses}
 use Rattle.pe_rules.specs.Causes.{cause_of, names_unknown, names_settled, names_closed, names_not_shown, has_bad_url, has_bad_feature, has_bad_call, has_bad_capability, names_other_page, live_frames, exceeds_pages, exceeds_depth, exceeds_frames, exceeds_statuses, exceeds_pending, exceeds_store}
 use Rattle.pe_rules.specs.Changes.{changes_after}
 use Rattle.pe_rules.specs.Replies.{answer_of, new_origin, told, reply_in, accepts_in}
-use Rattle.pe_script.specs.Reading.{Reading, Says, reading_of}
-use Rattle.pe_output.specs.OutputText.{reading_of_told, event_text, history_after, text_from, output_text}
+use Rattle.pe_script.specs.Reading.{Says, reading_of}
+use Rattle.pe_output.specs.OutputText.{event_text, history_after, text_from, output_text}
 use Rattle.pe_laws.proofs.Numbers.{not_same, is_same, is_within}
 use Rattle.pe_laws.proofs.Older.{frame-older}
 use Rattle.pe_rows.proofs.OnLiterals.{output_on_literals}
 use Rattle.pe_rows.proofs.Quiet.{quiet-embed, live-frames-step}
 use Rattle.pe_rows.proofs.FirstPage.{opening, step, IsFirstPage, opened, kept, live, page-of-frame, depth-of, length-told, nothing-before, first_line, first_text, script-text}
-use Rattle.pe_rows.proofs.Repeated.{texts_from, IsRepeatable, repeated}
+use Rattle.pe_rows.proofs.Repeated.{texts_from, repeated}
 use Rattle.pe_rows.proofs.MostFramesText.{script, output}
 
 -- the event that embeds a frame in the page

@@ -1,7 +1,7 @@
 -- The greatest number of live statuses of a page, from the bytes of the script to the bytes of the output.
 -- The script is too long to be computed in one theorem: it is proved by induction over how many statuses were made.
 -- Computed are the readings of its two lines, the text of the first, and the digits of the output.
-use Rattle.std.proofs.Common.{◌≡◌, ◌≢◌, ℕ, zero, suc, ◌+◌, ◌<◌, ◌≤◌, Bool, true, false, ◌==◌, List, [], ◌∷◌, ◌++◌, length, map, filter, flat_map, replicate, codes, decimal, cond, Option, Some, None, unwrap_or, option_map, option_and_then, option_to_list, refl, sym, ◌∙◌, ap, arith, append-nil, add-one}
+use Rattle.std.proofs.Common.{◌≡◌, ◌≢◌, ℕ, suc, ◌+◌, ◌<◌, Bool, true, false, ◌==◌, List, [], ◌∷◌, ◌++◌, length, filter, flat_map, replicate, codes, decimal, cond, Option, Some, None, unwrap_or, option_map, option_and_then, option_to_list, refl, sym, ◌∙◌, ap, arith, append-nil}
 use Rattle.std.proofs.lemmas.List.{length_push, length-map}
 use Rattle.std.specs.Fmt.{digits}
 use Rattle.pe_base.specs.declared.state.State.TheVariants as state
@@ -16,10 +16,9 @@ use Rattle.pe_events.specs.declared.event.Event.{Event}
 use Rattle.pe_events.specs.declared.event.Event.TheVariants as event
 use Rattle.pe_events.specs.Texts.{answer_text, answer_words}
 use Rattle.pe_events.specs.Timed.{Timed}
-use Rattle.pe_rules.specs.History.{Item, Said, Step, Told, History, when, newest, each}
+use Rattle.pe_rules.specs.History.{Item, Said, Told, History, when, newest, each}
 use Rattle.pe_rules.specs.Making.{making}
-use Rattle.pe_rules.specs.Embedders.{chain, first_or, top_document, page}
-use Rattle.pe_rules.specs.Current.{is_current}
+use Rattle.pe_rules.specs.Embedders.{top_document, page}
 use Rattle.pe_rules.specs.Origins.{place_or_none, is_secure}
 use Rattle.pe_rules.specs.Denials.{why_denied}
 use Rattle.pe_rules.specs.Settings.{Pair, pair_for, setting_by, last_setting, stored}
@@ -28,14 +27,14 @@ use Rattle.pe_rules.specs.Statuses.{Status, status_by, drops, is_live_status, li
 use Rattle.pe_rules.specs.Causes.{cause_of, names_unknown, names_settled, names_closed, names_not_shown, has_bad_url, has_bad_feature, has_bad_call, has_bad_capability, names_other_page, page_statuses, exceeds_pages, exceeds_depth, exceeds_frames, exceeds_statuses, exceeds_pending, exceeds_store}
 use Rattle.pe_rules.specs.Changes.{change_between, changes_after, is_live_in}
 use Rattle.pe_rules.specs.Replies.{answer_of, told, reply_in, accepts_in}
-use Rattle.pe_script.specs.Reading.{Reading, Says, reading_of}
+use Rattle.pe_script.specs.Reading.{Says, reading_of}
 use Rattle.pe_output.specs.OutputText.{event_text, history_after, text_from, output_text}
-use Rattle.pe_laws.proofs.Numbers.{not_same, is_same}
+use Rattle.pe_laws.proofs.Numbers.{not_same}
 use Rattle.pe_laws.proofs.Older.{making-older, why-older}
 use Rattle.pe_rows.proofs.OnLiterals.{output_on_literals}
 use Rattle.pe_rows.proofs.Quiet.{quiet-query}
 use Rattle.pe_rows.proofs.FirstPage.{opening, step, IsFirstPage, opened, kept, live, document-of, page-of, page-of-frame, length-told, nothing-before, first_line, first_text, script-text}
-use Rattle.pe_rows.proofs.Repeated.{texts_from, IsRepeatable, repeated}
+use Rattle.pe_rows.proofs.Repeated.{texts_from, repeated}
 use Rattle.pe_rows.proofs.MostStatusesText.{script, output}
 
 -- the event that makes a status of the page's document

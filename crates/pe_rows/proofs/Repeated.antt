@@ -1,5 +1,5 @@
 -- The text of one line that is written again and again, by induction on how often.
-use Rattle.std.proofs.Common.{◌≡◌, ℕ, zero, suc, ◌+◌, ◌≤◌, List, [], ◌∷◌, ◌++◌, replicate, length, map, refl, sym, ◌∙◌, ap, arith, append-nil}
+use Rattle.std.proofs.Common.{◌≡◌, ℕ, zero, suc, ◌+◌, ◌≤◌, List, [], ◌∷◌, ◌++◌, replicate, length, map, refl, ◌∙◌, ap, arith, append-nil}
 use Rattle.pe_events.specs.Timed.{Timed}
 use Rattle.pe_rules.specs.History.{History}
 use Rattle.pe_script.specs.Reading.{Reading, Says}
