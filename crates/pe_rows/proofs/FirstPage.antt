@@ -1,5 +1,5 @@
 -- A page that the first event opens, and what later lines need of it.
-use Rattle.std.proofs.Common.{◌≡◌, ◌≢◌, ℕ, suc, ◌≤◌, true, false, List, [], ◌∷◌, ◌++◌, length, replicate, codes, Some, None, refl, ◌∙◌, ap, arith}
+use Rattle.std.proofs.Common.{◌≡◌, ◌≢◌, ℕ, suc, ◌≤◌, true, false, List, [], ◌∷◌, ◌++◌, length, map, codes, Option, Some, None, refl, ◌∙◌, ap, arith}
 use Rattle.pe_lines.specs.Lines.{told_lines}
 use Rattle.pe_events.specs.declared.event.Event.{Event}
 use Rattle.pe_events.specs.declared.event.Event.TheVariants as event
@@ -12,12 +12,12 @@ use Rattle.pe_rules.specs.Current.{is_current, document_in, is_live}
 use Rattle.pe_rules.specs.Origins.{sandbox_flag}
 use Rattle.pe_rules.specs.Changes.{numbers_above, changes_before}
 use Rattle.pe_rules.specs.Replies.{told}
-use Rattle.pe_script.specs.Reading.{Says, reading_of}
-use Rattle.pe_output.specs.OutputText.{reading_of_told, event_text, history_after, text_from, output_text}
+use Rattle.pe_script.specs.Reading.{Reading, Says, reading_of}
+use Rattle.pe_output.specs.OutputText.{reading_of_told, text_from, output_text}
 use Rattle.pe_laws.proofs.Older.{chain-older, frame-older, flag-older}
 use Rattle.pe_rows.proofs.OnLiterals.{output_on_literals}
 use Rattle.pe_rows.proofs.Quiet.{IsQuiet, last-older, is-frame-older, current-stays}
-use Rattle.pe_rows.proofs.Repeated.{text-step, map-repeated}
+use Rattle.pe_rows.proofs.Repeated.{blocks, IsTaken, text-taken, map-blocks}
 
 -- the first line opens a page of a.example
 abbrev pub opening : Timed
@@ -93,9 +93,9 @@ pub nothing-before : (T : Told) → clock T ≡ 0 → changes_before T 0 ≡ []
 unfolding changes_before numbers_above
 nothing-before T at = rw at refl
 
--- ---- a script of this line, and of one other line that is written again and again
+-- ---- a script that begins with this line
 
--- the line that opens the page, and its text
+-- the line, and its text
 abbrev pub first_line : List ℕ
 first_line = codes "0 open https://a.example/"
 
@@ -106,17 +106,15 @@ reads-first : reading_of first_line ≡ Says opening
 unfolding output_on_literals
 reads-first = refl
 
-first-text : event_text 5000 1 [] opening ≡ first_text
+begins : IsTaken 5000 opening (λ n. first_text) []
 unfolding output_on_literals
-first-text = refl
+begins = record { text_is = refl; after = refl }
 
-first-after : history_after 5000 [] opening ≡ opening ∷ []
-unfolding output_on_literals
-first-after = refl
-
-pub script-text : (script again text : List ℕ) (e : Timed) (n : ℕ) → told_lines script ≡ Some first_line ∷ replicate n (Some again) → reading_of again ≡ Says e
-    → text_from 5000 2 (opening ∷ []) (replicate n (Says e)) ≡ text → output_text 5000 script ≡ first_text ++ text
+-- further lines in blocks
+pub script-text : (script text : List ℕ) (n : ℕ) (block last : List (Option (List ℕ))) (said ended : List Reading)
+    → told_lines script ≡ Some first_line ∷ blocks n block last → map reading_of_told block ≡ said → map reading_of_told last ≡ ended
+    → text_from 5000 2 (opening ∷ []) (blocks n said ended) ≡ text → output_text 5000 script ≡ first_text ++ text
 unfolding output_text
-script-text script again text e n lines reads is =
-    rw (lines, reads-first, map-repeated reading_of_told n (Some again), reads)
-    (text-step 5000 1 [] opening (replicate n (Says e)) ∙ rw (first-text, first-after, is) refl)
+script-text script text n block last said ended lines reads ends is =
+    rw (lines, reads-first, map-blocks reading_of_told n block last, reads, ends)
+    (text-taken 5000 opening (λ n. first_text) [] (blocks n said ended) begins ∙ ap (λ t. first_text ++ t) is)

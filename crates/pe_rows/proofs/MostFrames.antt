@@ -1,7 +1,7 @@
 -- The greatest number of frames of a page, from the bytes of the script to the bytes of the output.
 -- The script is too long to be computed in one theorem: it is proved by induction over how many frames were embedded.
 -- Computed are the readings of its two lines, the text of the first, and the digits of the output.
-use Rattle.std.proofs.Common.{◌≡◌, ◌≢◌, ℕ, suc, ◌+◌, ◌<◌, true, false, List, [], ◌∷◌, ◌++◌, length, replicate, codes, decimal, Option, Some, None, is_none, option_map, option_to_list, refl, ◌∙◌, ap, arith, append-nil, add-one}
+use Rattle.std.proofs.Common.{◌≡◌, ◌≢◌, ℕ, suc, ◌+◌, ◌<◌, true, false, List, [], ◌∷◌, ◌++◌, length, map, codes, decimal, Option, Some, None, is_none, option_map, option_to_list, refl, ◌∙◌, ap, arith, append-nil, add-one}
 use Rattle.std.specs.Fmt.{digits}
 use Rattle.pe_lines.specs.Lines.{lines, told_lines}
 use Rattle.pe_origin.specs.Origins.{origin_text}
@@ -23,14 +23,14 @@ use Rattle.pe_rules.specs.Statuses.{Status, status_by, live_statuses}
 use Rattle.pe_rules.specs.Causes.{cause_of, names_unknown, names_settled, names_closed, names_not_shown, has_bad_url, has_bad_feature, has_bad_call, has_bad_capability, names_other_page, live_frames, exceeds_pages, exceeds_depth, exceeds_frames, exceeds_statuses, exceeds_pending, exceeds_store}
 use Rattle.pe_rules.specs.Changes.{changes_after}
 use Rattle.pe_rules.specs.Replies.{answer_of, new_origin, told, reply_in, accepts_in}
-use Rattle.pe_script.specs.Reading.{Says, reading_of}
-use Rattle.pe_output.specs.OutputText.{event_text, history_after, text_from, output_text}
+use Rattle.pe_script.specs.Reading.{Says}
+use Rattle.pe_output.specs.OutputText.{reading_of_told, event_text, history_after, text_from, output_text}
 use Rattle.pe_laws.proofs.Numbers.{not_same, is_same, is_within}
 use Rattle.pe_laws.proofs.Older.{frame-older}
 use Rattle.pe_rows.proofs.OnLiterals.{output_on_literals}
 use Rattle.pe_rows.proofs.Quiet.{quiet-embed, live-frames-step}
 use Rattle.pe_rows.proofs.FirstPage.{opening, step, IsFirstPage, opened, kept, live, page-of-frame, depth-of, length-told, nothing-before, first_line, first_text, script-text}
-use Rattle.pe_rows.proofs.Repeated.{texts_from, repeated}
+use Rattle.pe_rows.proofs.Repeated.{blocks, texts_from, IsTaken, one-line, text-last, repeated}
 use Rattle.pe_rows.proofs.MostFramesText.{script, output}
 
 -- the event that embeds a frame in the page
@@ -204,11 +204,19 @@ text-refused : (H : History) → IsPage (told 5000 H) → length H ≡ 256 → e
 unfolding event_text accepts_in reply_in
 text-refused H w full = rw (frames-refuse (codes "https://b.example/") (told 5000 H) w is-url (length-told 5000 H ∙ full)) refused-text
 
+taken : (H : History) → IsPage (told 5000 H) → length H < 256 → IsTaken 5000 again frame_line H
+taken H w few = record { text_is = text-accepted H w few; after = after-accepted H w few }
+
+-- what holds after so many of these lines
+abbrev Holds : ℕ → History → Type 0
+Holds k H = IsPage (told 5000 H) × (length H ≡ suc k)
+
 -- 255 frames beside the top one, and one more
-frames-text : text_from 5000 2 (opening ∷ []) (replicate 256 (Says again)) ≡ texts_from frame_line refused_line 2 255
-frames-text = repeated 5000 again (λ H. IsPage (told 5000 H)) frame_line refused_line 256
-    (λ H w few. record { text = text-accepted H w (omega arith); after = after-accepted H w (omega arith); holds = page-again H w })
-    text-refused 255 (opening ∷ []) page-begun refl
+frames-text : text_from 5000 2 (opening ∷ []) (blocks 255 (Says again ∷ []) (Says again ∷ [])) ≡ texts_from frame_line 1 refused_line 2 255
+frames-text = repeated 5000 1 Holds (Says again ∷ []) (Says again ∷ []) frame_line refused_line 255
+    (λ k H h below. one-line 5000 (Holds (suc k)) again frame_line H (taken H h.0 (omega (arith, h.1))) (page-again H h.0, ap suc h.1))
+    (λ H h. text-last 5000 (length H + 1) H again ∙ rw h.1 (text-refused H h.0 h.1))
+    255 0 (opening ∷ []) (page-begun, refl) refl
 
 -- ---- the script
 
@@ -216,17 +224,20 @@ frames-text = repeated 5000 again (λ H. IsPage (told 5000 H)) frame_line refuse
 abbrev again_line : List ℕ
 again_line = codes "0 embed f1 https://b.example/"
 
-reads-again : reading_of again_line ≡ Says again
+reads-again : map reading_of_told (Some again_line ∷ []) ≡ Says again ∷ []
 unfolding output_on_literals
 reads-again = refl
 
-lines-are : told_lines script ≡ Some first_line ∷ replicate 256 (Some again_line)
+lines-are : told_lines script ≡ Some first_line ∷ blocks 255 (Some again_line ∷ []) (Some again_line ∷ [])
 unfolding told_lines lines
 lines-are = refl
 
-output-is : first_text ++ texts_from frame_line refused_line 2 255 ≡ output
+output-is : first_text ++ texts_from frame_line 1 refused_line 2 255 ≡ output
 unfolding digits
 output-is = refl
 
 pub row_MostFrames : output_text 5000 script ≡ output
-row_MostFrames = script-text script again_line (texts_from frame_line refused_line 2 255) again 256 lines-are reads-again frames-text ∙ output-is
+row_MostFrames =
+    script-text script (texts_from frame_line 1 refused_line 2 255) 255 (Some again_line ∷ []) (Some again_line ∷ []) (Says again ∷ []) (Says again ∷ [])
+    lines-are reads-again reads-again frames-text
+    ∙ output-is

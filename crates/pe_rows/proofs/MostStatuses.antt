@@ -1,7 +1,7 @@
 -- The greatest number of live statuses of a page, from the bytes of the script to the bytes of the output.
 -- The script is too long to be computed in one theorem: it is proved by induction over how many statuses were made.
 -- Computed are the readings of its two lines, the text of the first, and the digits of the output.
-use Rattle.std.proofs.Common.{◌≡◌, ◌≢◌, ℕ, suc, ◌+◌, ◌<◌, Bool, true, false, ◌==◌, List, [], ◌∷◌, ◌++◌, length, filter, flat_map, replicate, codes, decimal, cond, Option, Some, None, unwrap_or, option_map, option_and_then, option_to_list, refl, sym, ◌∙◌, ap, arith, append-nil}
+use Rattle.std.proofs.Common.{◌≡◌, ◌≢◌, ℕ, suc, ◌+◌, ◌<◌, Bool, true, false, ◌==◌, List, [], ◌∷◌, ◌++◌, length, filter, flat_map, map, codes, decimal, cond, Option, Some, None, unwrap_or, option_map, option_and_then, option_to_list, refl, sym, ◌∙◌, ap, arith, append-nil}
 use Rattle.std.proofs.lemmas.List.{length_push, length-map}
 use Rattle.std.specs.Fmt.{digits}
 use Rattle.pe_base.specs.declared.state.State.TheVariants as state
@@ -27,14 +27,14 @@ use Rattle.pe_rules.specs.Statuses.{Status, status_by, drops, is_live_status, li
 use Rattle.pe_rules.specs.Causes.{cause_of, names_unknown, names_settled, names_closed, names_not_shown, has_bad_url, has_bad_feature, has_bad_call, has_bad_capability, names_other_page, page_statuses, exceeds_pages, exceeds_depth, exceeds_frames, exceeds_statuses, exceeds_pending, exceeds_store}
 use Rattle.pe_rules.specs.Changes.{change_between, changes_after, is_live_in}
 use Rattle.pe_rules.specs.Replies.{answer_of, told, reply_in, accepts_in}
-use Rattle.pe_script.specs.Reading.{Says, reading_of}
-use Rattle.pe_output.specs.OutputText.{event_text, history_after, text_from, output_text}
+use Rattle.pe_script.specs.Reading.{Says}
+use Rattle.pe_output.specs.OutputText.{reading_of_told, event_text, history_after, text_from, output_text}
 use Rattle.pe_laws.proofs.Numbers.{not_same}
 use Rattle.pe_laws.proofs.Older.{making-older, why-older}
 use Rattle.pe_rows.proofs.OnLiterals.{output_on_literals}
 use Rattle.pe_rows.proofs.Quiet.{quiet-query}
 use Rattle.pe_rows.proofs.FirstPage.{opening, step, IsFirstPage, opened, kept, live, document-of, page-of, page-of-frame, length-told, nothing-before, first_line, first_text, script-text}
-use Rattle.pe_rows.proofs.Repeated.{texts_from, repeated}
+use Rattle.pe_rows.proofs.Repeated.{blocks, texts_from, IsTaken, one-line, text-last, repeated}
 use Rattle.pe_rows.proofs.MostStatusesText.{script, output}
 
 -- the event that makes a status of the page's document
@@ -229,11 +229,19 @@ text-refused : (H : History) → IsPage (told 5000 H) → length H ≡ 257 → e
 unfolding event_text accepts_in reply_in
 text-refused H w full = rw (statuses-refuse (told 5000 H) w (length-told 5000 H ∙ full)) refused-text
 
+taken : (H : History) → IsPage (told 5000 H) → length H < 257 → IsTaken 5000 again status_line H
+taken H w few = record { text_is = text-accepted H w few; after = after-accepted H w few }
+
+-- what holds after so many of these lines
+abbrev Holds : ℕ → History → Type 0
+Holds k H = IsPage (told 5000 H) × (length H ≡ suc k)
+
 -- 256 statuses, and one more
-statuses-text : text_from 5000 2 (opening ∷ []) (replicate 257 (Says again)) ≡ texts_from status_line refused_line 2 256
-statuses-text = repeated 5000 again (λ H. IsPage (told 5000 H)) status_line refused_line 257
-    (λ H w few. record { text = text-accepted H w (omega arith); after = after-accepted H w (omega arith); holds = page-again H w })
-    text-refused 256 (opening ∷ []) page-begun refl
+statuses-text : text_from 5000 2 (opening ∷ []) (blocks 256 (Says again ∷ []) (Says again ∷ [])) ≡ texts_from status_line 1 refused_line 2 256
+statuses-text = repeated 5000 1 Holds (Says again ∷ []) (Says again ∷ []) status_line refused_line 256
+    (λ k H h below. one-line 5000 (Holds (suc k)) again status_line H (taken H h.0 (omega (arith, h.1))) (page-again H h.0, ap suc h.1))
+    (λ H h. text-last 5000 (length H + 1) H again ∙ rw h.1 (text-refused H h.0 h.1))
+    256 0 (opening ∷ []) (page-begun, refl) refl
 
 -- ---- the script
 
@@ -241,17 +249,20 @@ statuses-text = repeated 5000 again (λ H. IsPage (told 5000 H)) status_line ref
 abbrev again_line : List ℕ
 again_line = codes "0 query f1 camera"
 
-reads-again : reading_of again_line ≡ Says again
+reads-again : map reading_of_told (Some again_line ∷ []) ≡ Says again ∷ []
 unfolding output_on_literals
 reads-again = refl
 
-lines-are : told_lines script ≡ Some first_line ∷ replicate 257 (Some again_line)
+lines-are : told_lines script ≡ Some first_line ∷ blocks 256 (Some again_line ∷ []) (Some again_line ∷ [])
 unfolding told_lines lines
 lines-are = refl
 
-output-is : first_text ++ texts_from status_line refused_line 2 256 ≡ output
+output-is : first_text ++ texts_from status_line 1 refused_line 2 256 ≡ output
 unfolding digits
 output-is = refl
 
 pub row_MostStatuses : output_text 5000 script ≡ output
-row_MostStatuses = script-text script again_line (texts_from status_line refused_line 2 256) again 257 lines-are reads-again statuses-text ∙ output-is
+row_MostStatuses =
+    script-text script (texts_from status_line 1 refused_line 2 256) 256 (Some again_line ∷ []) (Some again_line ∷ []) (Says again ∷ []) (Says again ∷ [])
+    lines-are reads-again reads-again statuses-text
+    ∙ output-is
