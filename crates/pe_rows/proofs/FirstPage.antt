@@ -1,16 +1,17 @@
 -- A page that the first event opens, and what later lines need of it.
-use Rattle.std.proofs.Common.{◌≡◌, ◌≢◌, ℕ, suc, ◌≤◌, true, false, List, [], ◌∷◌, ◌++◌, length, map, codes, Option, Some, None, refl, ◌∙◌, ap, arith}
+use Rattle.std.proofs.Common.{◌≡◌, ◌≢◌, ℕ, suc, ◌≤◌, true, false, List, [], ◌∷◌, ◌++◌, length, map, codes, Option, Some, None, option_to_list, refl, ◌∙◌, ap, arith}
 use Rattle.pe_lines.specs.Lines.{told_lines}
 use Rattle.pe_events.specs.declared.event.Event.{Event}
 use Rattle.pe_events.specs.declared.event.Event.TheVariants as event
 use Rattle.pe_events.specs.Timed.{Timed}
-use Rattle.pe_rules.specs.History.{Item, Step, Told, History, clock}
+use Rattle.pe_rules.specs.History.{Item, Step, Told, History, each, clock}
 use Rattle.pe_rules.specs.Numbering.{is_frame, last_document}
 use Rattle.pe_rules.specs.Making.{frame_of}
 use Rattle.pe_rules.specs.Embedders.{chain, top_document, page, page_of_frame, depth}
 use Rattle.pe_rules.specs.Current.{is_current, document_in, is_live}
 use Rattle.pe_rules.specs.Origins.{sandbox_flag}
-use Rattle.pe_rules.specs.Changes.{numbers_above, changes_before}
+use Rattle.pe_rules.specs.Statuses.{Status, status_by, live_statuses}
+use Rattle.pe_rules.specs.Changes.{numbers_above, changes_before, changes_after}
 use Rattle.pe_rules.specs.Replies.{told}
 use Rattle.pe_script.specs.Reading.{Reading, Says, reading_of}
 use Rattle.pe_output.specs.OutputText.{reading_of_told, text_from, output_text}
@@ -92,6 +93,14 @@ depth-of T w = rw (w.document, w.chain_is) refl
 pub nothing-before : (T : Told) → clock T ≡ 0 → changes_before T 0 ≡ []
 unfolding changes_before numbers_above
 nothing-before T at = rw at refl
+
+-- the statuses that the steps made
+abbrev pub statuses_made : Told → List Status
+statuses_made T = each (λ s B. option_to_list (status_by s.event B (length (s ∷ B)))) T
+
+pub nothing-after : (T U : Told) → statuses_made T ≡ [] → changes_after T U 0 ≡ []
+unfolding changes_after live_statuses
+nothing-after T U none = rw none refl
 
 -- ---- a script that begins with this line
 

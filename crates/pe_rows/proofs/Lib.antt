@@ -35,12 +35,13 @@ mod LastPieceCounts
 mod LastSettingAlone
 mod LaterDelivery
 mod LifeOfASetting
-mod Limits
 mod LineTooLong
 mod LongestLine
 mod MessageToAReplacedDocument
 mod MostFrames
 mod MostFramesText
+mod MostMessages
+mod MostMessagesText
 mod MostPages
 mod MostStatuses
 mod MostStatusesText

@@ -1,7 +1,7 @@
 -- The greatest number of frames of a page, from the bytes of the script to the bytes of the output.
 -- The script is too long to be computed in one theorem: it is proved by induction over how many frames were embedded.
 -- Computed are the readings of its two lines, the text of the first, and the digits of the output.
-use Rattle.std.proofs.Common.{◌≡◌, ◌≢◌, ℕ, suc, ◌+◌, ◌<◌, true, false, List, [], ◌∷◌, ◌++◌, length, map, codes, decimal, Option, Some, None, is_none, option_map, option_to_list, refl, ◌∙◌, ap, arith, append-nil, add-one}
+use Rattle.std.proofs.Common.{◌≡◌, ◌≢◌, ℕ, suc, ◌+◌, ◌<◌, true, false, List, [], ◌∷◌, ◌++◌, length, map, codes, decimal, Option, Some, None, is_none, option_map, refl, ◌∙◌, ap, arith, append-nil, add-one}
 use Rattle.std.specs.Fmt.{digits}
 use Rattle.pe_lines.specs.Lines.{lines, told_lines}
 use Rattle.pe_origin.specs.Origins.{origin_text}
@@ -19,9 +19,7 @@ use Rattle.pe_rules.specs.Embedders.{chain, top_document, page, page_of_frame}
 use Rattle.pe_rules.specs.Current.{is_current, document_in, is_live}
 use Rattle.pe_rules.specs.Origins.{origin_of, sandbox_flag, place_or_none, origin_of_place, is_blank_kind}
 use Rattle.pe_rules.specs.Settings.{setting_by}
-use Rattle.pe_rules.specs.Statuses.{Status, status_by, live_statuses}
 use Rattle.pe_rules.specs.Causes.{cause_of, names_unknown, names_settled, names_closed, names_not_shown, has_bad_url, has_bad_feature, has_bad_call, has_bad_capability, names_other_page, live_frames, exceeds_pages, exceeds_depth, exceeds_frames, exceeds_statuses, exceeds_pending, exceeds_store}
-use Rattle.pe_rules.specs.Changes.{changes_after}
 use Rattle.pe_rules.specs.Replies.{answer_of, new_origin, told, reply_in, accepts_in}
 use Rattle.pe_script.specs.Reading.{Says}
 use Rattle.pe_output.specs.OutputText.{reading_of_told, event_text, history_after, text_from, output_text}
@@ -29,7 +27,7 @@ use Rattle.pe_laws.proofs.Numbers.{not_same, is_same, is_within}
 use Rattle.pe_laws.proofs.Older.{frame-older}
 use Rattle.pe_rows.proofs.OnLiterals.{output_on_literals}
 use Rattle.pe_rows.proofs.Quiet.{quiet-embed, live-frames-step}
-use Rattle.pe_rows.proofs.FirstPage.{opening, step, IsFirstPage, opened, kept, live, page-of-frame, depth-of, length-told, nothing-before, first_line, first_text, script-text}
+use Rattle.pe_rows.proofs.FirstPage.{opening, step, IsFirstPage, opened, kept, live, page-of-frame, depth-of, length-told, statuses_made, nothing-before, nothing-after, first_line, first_text, script-text}
 use Rattle.pe_rows.proofs.Repeated.{blocks, texts_from, IsTaken, one-line, text-last, repeated}
 use Rattle.pe_rows.proofs.MostFramesText.{script, output}
 
@@ -38,10 +36,6 @@ abbrev embedding : List ℕ → Event
 embedding url = event.Embed 1 (Some url) None None None false false None
 
 -- ---- a page of some frames
-
--- the statuses that the steps made
-abbrev statuses_made : Told → List Status
-statuses_made T = each (λ s B. option_to_list (status_by s.event B (length (s ∷ B)))) T
 
 -- each step made a frame of the page of frame 1
 pub record IsPage (T : Told) : Type 0 where
@@ -138,11 +132,6 @@ answer-is : (duration : ℕ) (url : List ℕ) (T : Told) → IsPage T → is_bla
     → answer_of duration T 0 (embedding url) ≡ answer.FrameMade (length T + 1) (length T + 1) (origin_of_place (length T + 1) (place_or_none url))
 unfolding answer_of new_origin
 answer-is duration url T w other = rw (add-one (length T)) (ap (answer.FrameMade (suc (length T)) (suc (length T))) (origin-new url T (Said answer.Done) w.first other))
-
--- no status changes
-nothing-after : (T U : Told) → statuses_made T ≡ [] → changes_after T U 0 ≡ []
-unfolding changes_after live_statuses
-nothing-after T U none = rw none refl
 
 -- ---- the line of one more frame
 

@@ -23,7 +23,7 @@ use Rattle.pe_rules.specs.Origins.{place_or_none, is_secure}
 use Rattle.pe_rules.specs.Denials.{why_denied}
 use Rattle.pe_rules.specs.Settings.{Pair, pair_for, setting_by, last_setting, stored}
 use Rattle.pe_rules.specs.PermissionState.{permission_state}
-use Rattle.pe_rules.specs.Statuses.{Status, status_by, drops, is_live_status, live_statuses}
+use Rattle.pe_rules.specs.Statuses.{Status, drops, is_live_status, live_statuses}
 use Rattle.pe_rules.specs.Causes.{cause_of, names_unknown, names_settled, names_closed, names_not_shown, has_bad_url, has_bad_feature, has_bad_call, has_bad_capability, names_other_page, page_statuses, exceeds_pages, exceeds_depth, exceeds_frames, exceeds_statuses, exceeds_pending, exceeds_store}
 use Rattle.pe_rules.specs.Changes.{change_between, changes_after, is_live_in}
 use Rattle.pe_rules.specs.Replies.{answer_of, told, reply_in, accepts_in}
@@ -33,7 +33,7 @@ use Rattle.pe_laws.proofs.Numbers.{not_same}
 use Rattle.pe_laws.proofs.Older.{making-older, why-older}
 use Rattle.pe_rows.proofs.OnLiterals.{output_on_literals}
 use Rattle.pe_rows.proofs.Quiet.{quiet-query}
-use Rattle.pe_rows.proofs.FirstPage.{opening, step, IsFirstPage, opened, kept, live, document-of, page-of, page-of-frame, length-told, nothing-before, first_line, first_text, script-text}
+use Rattle.pe_rows.proofs.FirstPage.{opening, step, IsFirstPage, opened, kept, live, document-of, page-of, page-of-frame, length-told, statuses_made, nothing-before, first_line, first_text, script-text}
 use Rattle.pe_rows.proofs.Repeated.{blocks, texts_from, IsTaken, one-line, text-last, repeated}
 use Rattle.pe_rows.proofs.MostStatusesText.{script, output}
 
@@ -50,10 +50,6 @@ unfolding feature_named
 is-named = refl
 
 -- ---- a page of some statuses
-
--- the statuses that the steps made
-abbrev statuses_made : Told → List Status
-statuses_made T = each (λ s B. option_to_list (status_by s.event B (length (s ∷ B)))) T
 
 -- each status is of the page's document and of the camera
 abbrev AreOfPage : List Status → Type 0

@@ -1,10 +1,11 @@
 -- What an event that ends no document, and makes none in an older frame, leaves of what was there before it.
 use Rattle.std.proofs.Common.{◌≡◌, ◌≢◌, ℕ, suc, ◌+◌, ◌≤◌, Bool, true, false, ◌&&◌, ◌==◌, List, [], ◌∷◌, ◌++◌, length, filter, Option, Some, None, is_some, option_map, option_and_then, option_to_list, refl, ◌∙◌, ap, arith, length-append}
 use Rattle.std.proofs.lemmas.List.Elements.{filter-append}
+use Rattle.pe_base.specs.declared.input.InputKind.{InputKind}
 use Rattle.pe_events.specs.declared.event.Event.{Event}
 use Rattle.pe_events.specs.declared.event.Event.TheVariants as event
 use Rattle.pe_rules.specs.History.{Step, Told, when, newest, each}
-use Rattle.pe_rules.specs.Numbering.{makes_frame, document_frame, is_frame, frames_made, last_document}
+use Rattle.pe_rules.specs.Numbering.{makes_frame, document_frame, is_frame, made, frames_made, last_document}
 use Rattle.pe_rules.specs.Embedders.{chain, first_or, top_document, page, page_of_frame}
 use Rattle.pe_rules.specs.Current.{ends, frames_above, is_current, document_in, is_live}
 use Rattle.pe_rules.specs.Causes.{is_same_number, live_frames}
@@ -25,6 +26,12 @@ quiet-embed parent url = record { ends_none = λ frames. refl; own = own-number 
 
 pub quiet-query : (frame : ℕ) (name : List ℕ) → IsQuiet (event.Query frame name)
 quiet-query frame name = record { ends_none = λ frames. refl; own = λ k f ne. refl }
+
+pub quiet-input : (frame : ℕ) (kind : InputKind) → IsQuiet (event.Input frame kind)
+quiet-input frame kind = record { ends_none = λ frames. refl; own = λ k f ne. refl }
+
+pub quiet-post : (sender target : ℕ) (origin : Option (List ℕ)) (name : List ℕ) → IsQuiet (event.Post sender target origin name)
+quiet-post sender target origin name = record { ends_none = λ frames. refl; own = λ k f ne. refl }
 
 -- ---- older documents and frames
 
@@ -95,29 +102,37 @@ within-append : (n : ℕ) (ds es : List ℕ) → AllWithin n ds → AllWithin n 
 within-append n [] es h k = k
 within-append n (d ∷ ds) es h k = (h.0, within-append n ds es h.1 k)
 
-frames-step : (s : Step) (T : Told) → frames_made (s ∷ T) ≡ frames_made T ++ frame_added s T
-unfolding frames_made each
-frames-step s T = refl
-
-frames-within : (T : Told) → AllWithin (length T) (frames_made T)
-unfolding frames_made each
-frames-within [] = tt
-frames-within (s ∷ T) = within-append (suc (length T)) (frames_made T) (frame_added s T) (within-more (length T) (frames_made T) (frames-within T)) (by_test (makes_frame s.event))
+-- the numbers whose positions pass a test are those of the history
+pub made-within : (makes : Step → Bool) (T : Told) → AllWithin (length T) (made makes T)
+unfolding each
+made-within makes [] = tt
+made-within makes (s ∷ T) =
+    within-append (suc (length T)) (made makes T) (option_to_list (when (makes s) (suc (length T)))) (within-more (length T) (made makes T) (made-within makes T)) (by_test (makes s))
   where
     by_test : (b : Bool) → AllWithin (suc (length T)) (option_to_list (when b (suc (length T))))
     by_test true = (omega arith, tt)
     by_test false = tt
 
-filter-same : (n : ℕ) (p q : ℕ → Bool) (xs : List ℕ) → AllWithin n xs → ((x : ℕ) → x ≤ n → p x ≡ q x) → filter p xs ≡ filter q xs
-filter-same n p q [] within same = refl
-filter-same n p q (x ∷ xs) within same = rw (same x within.0, filter-same n p q xs within.1 same) refl
+pub made-step : (makes : Step → Bool) (s : Step) (T : Told) → made makes (s ∷ T) ≡ made makes T ++ option_to_list (when (makes s) (suc (length T)))
+unfolding each
+made-step makes s T = refl
+
+-- how many of them pass a test, where it says the same of the older ones as another
+pub count-step : (makes : Step → Bool) (old new : ℕ → Bool) (s : Step) (T : Told) → ((k : ℕ) → k ≤ length T → new k ≡ old k)
+    → length (filter new (made makes (s ∷ T))) ≡ length (filter old (made makes T)) + length (filter new (option_to_list (when (makes s) (suc (length T)))))
+count-step makes old new s T same =
+    let newer = option_to_list (when (makes s) (suc (length T))) in
+    ap (λ xs. length (filter new xs)) (made-step makes s T)
+    ∙ ap length (filter-append new (made makes T) newer)
+    ∙ length-append (filter new (made makes T)) (filter new newer)
+    ∙ ap (λ xs. length xs + length (filter new newer)) (filter-same (length T) new old (made makes T) (made-within makes T) same)
+  where
+    filter-same : (n : ℕ) (p q : ℕ → Bool) (xs : List ℕ) → AllWithin n xs → ((x : ℕ) → x ≤ n → p x ≡ q x) → filter p xs ≡ filter q xs
+    filter-same n p q [] within same = refl
+    filter-same n p q (x ∷ xs) within same = rw (same x within.0, filter-same n p q xs within.1 same) refl
 
 pub live-frames-step : (s : Step) (T : Told) (top : ℕ) → IsQuiet s.event
     → length (live_frames (s ∷ T) top) ≡ length (live_frames T top) + length (filter (is_in_page (s ∷ T) top) (frame_added s T))
-unfolding live_frames
+unfolding live_frames frames_made
 live-frames-step s T top q =
-    ap (λ xs. length (filter (is_in_page (s ∷ T) top) xs)) (frames-step s T)
-    ∙ ap length (filter-append (is_in_page (s ∷ T) top) (frames_made T) (frame_added s T))
-    ∙ length-append (filter (is_in_page (s ∷ T) top) (frames_made T)) (filter (is_in_page (s ∷ T) top) (frame_added s T))
-    ∙ ap (λ xs. length xs + length (filter (is_in_page (s ∷ T) top) (frame_added s T)))
-    (filter-same (length T) (is_in_page (s ∷ T) top) (is_in_page T top) (frames_made T) (frames-within T) (λ f h. rw (live-older s T f q h, page-of-frame-older s T f q h) refl))
+    count-step (λ s. makes_frame s.event) (is_in_page T top) (is_in_page (s ∷ T) top) s T (λ f h. rw (live-older s T f q h, page-of-frame-older s T f q h) refl)
