@@ -45,6 +45,7 @@ unfolding told
 length-told duration [] = refl
 length-told duration (e ∷ H) = ap suc (length-told duration H)
 
+-- the page after the first line
 pub opened : IsFirstPage (told 5000 (opening ∷ []))
 unfolding output_on_literals
 opened = record { begun = omega (arith, length-told 5000 (opening ∷ [])); clock_is = refl; made = refl; document = refl; current = refl; chain_is = refl; frame = refl; flag = refl }
@@ -98,6 +99,7 @@ nothing-before T at = rw at refl
 abbrev pub statuses_made : Told → List Status
 statuses_made T = each (λ s B. option_to_list (status_by s.event B (length (s ∷ B)))) T
 
+-- where no status was made, none changes
 pub nothing-after : (T U : Told) → statuses_made T ≡ [] → changes_after T U 0 ≡ []
 unfolding changes_after live_statuses
 nothing-after T U none = rw none refl

@@ -225,6 +225,7 @@ output-is : first_text ++ texts_from frame_line 1 refused_line 2 255 ≡ output
 unfolding digits
 output-is = refl
 
+-- the output text of the script's bytes is the bytes of the output
 pub row_MostFrames : output_text 5000 script ≡ output
 row_MostFrames =
     script-text script (texts_from frame_line 1 refused_line 2 255) 255 (Some again_line ∷ []) (Some again_line ∷ []) (Says again ∷ []) (Says again ∷ [])

@@ -319,6 +319,7 @@ output-is : first_text ++ texts_from both_lines 2 (input_line 514 ++ refused_lin
 unfolding digits
 output-is = refl
 
+-- the output text of the script's bytes is the bytes of the output
 pub row_MostMessages : output_text 5000 script ≡ output
 row_MostMessages =
     script-text script (texts_from both_lines 2 (input_line 514 ++ refused_line) 2 256) 256 lines_of_both lines_of_both both both

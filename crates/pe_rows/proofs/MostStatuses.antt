@@ -257,6 +257,7 @@ output-is : first_text ++ texts_from status_line 1 refused_line 2 256 ≡ output
 unfolding digits
 output-is = refl
 
+-- the output text of the script's bytes is the bytes of the output
 pub row_MostStatuses : output_text 5000 script ≡ output
 row_MostStatuses =
     script-text script (texts_from status_line 1 refused_line 2 256) 256 (Some again_line ∷ []) (Some again_line ∷ []) (Says again ∷ []) (Says again ∷ [])
