@@ -4,9 +4,9 @@ pub mod Stretches
 pub mod Outcomes
 pub mod Clauses
 pub mod Older
-pub mod Crossings
 pub mod Opening
 pub mod Growing
 pub mod Replies
+pub mod Headers
 pub mod Sayings
 pub mod Judgings
