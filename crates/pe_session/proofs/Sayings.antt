@@ -15,7 +15,7 @@ use Rattle.pe_script.specs.Reading.{Reading, Silent, Refusal, Says, timed_of, re
 use Rattle.pe_output.specs.Built.{is_page, is_child, is_built, as_built, reading_built}
 use Rattle.pe_session.specs.Headers.{are_headers, header_of}
 use Rattle.pe_session.specs.Saying.{is_silent, page_event, child_event, is_place, open_said, embed_said, event_by_verb, event_built, reading_said}
-use Rattle.pe_session.proofs.Headers.{keyword-bare, header_alone, options-are, headers-none, headers-some}
+use Rattle.pe_session.proofs.HeaderWords.{keyword-bare, header_alone, options-are, headers-none, headers-some}
 
 -- ---- the words behind a verb
 
@@ -90,9 +90,13 @@ or-none : (b : Bool) → (b || false) ≡ b
 or-none true = refl
 or-none false = refl
 
+or-nothing : (b : Bool) → (b || false || false) ≡ b
+or-nothing true = refl
+or-nothing false = refl
+
 built-open : (time verb : Word) (more : List Word) → is_keyword (codes "0") time ≡ true → is_keyword (codes "open") verb ≡ true → is_built (time ∷ verb ∷ more) ≡ is_page more
 unfolding is_built
-built-open time verb more t v = rw (t, keyword-bare (codes "open") verb v) (or-none (is_page more))
+built-open time verb more t v = rw (t, keyword-bare (codes "open") verb v) (or-nothing (is_page more))
 
 built-embed : (time verb : Word) (more : List Word) → is_keyword (codes "0") time ≡ true → is_keyword (codes "embed") verb ≡ true → is_built (time ∷ verb ∷ more) ≡ is_child more
 unfolding is_built

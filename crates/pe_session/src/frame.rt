@@ -1,5 +1,5 @@
 //! A frame and its document.
-ghost use Rattle.std.specs.Prelude.{◌≡◌, ◌+◌, ◌<◌, ◌≤◌, ◌^◌, IfOk, None, [], ◌∷◌, ◌++◌, List};
+ghost use Rattle.std.specs.Prelude.{◌≡◌, ◌+◌, ◌-◌, ◌<◌, ◌≤◌, ◌^◌, IfOk, None, [], ◌∷◌, ◌++◌, List};
 ghost use Rattle.std.specs.Option.{option_copied};
 ghost use Rattle.pe_features.specs.declared.feature.Feature.{Feature};
 ghost use Rattle.pe_policy.specs.Links.{Link, last_link};

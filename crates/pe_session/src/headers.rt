@@ -46,7 +46,8 @@ pub fn read_headers<'a>(
         [] | [_] => Ok(None),
         [_, text] => Ok(Some(Text::lent(text.text.as_slice()))),
         [_, text, more @ ..] => {
-            let mut header = text.text.as_slice().to_vec(alloc)?;
+            let mut header = Vec::new(alloc);
+            header.extend_from_slice(text.text.as_slice())?;
             put_headers(&mut header, more)?;
             Ok(Some(Text::of(header)))
         }

@@ -1,5 +1,6 @@
 -- The options of words that are headers alone, and of others.
-use Rattle.std.proofs.Common.{◌≡◌, ℕ, Bool, true, false, ◌&&◌, ◌||◌, List, [], ◌∷◌, Option, Some, None, is_some, unwrap_or, option_map, option_and_then, refl, sym, ◌∙◌, ap, codes, bytes_eq, if◌then◌else◌, fold, subst}
+use Rattle.std.proofs.Common.{◌≡◌, ℕ, ◌<◌, ◌≤◌, ◌-◌, Bool, true, false, ◌&&◌, ◌||◌, List, [], ◌∷◌, ◌++◌, length, take, drop, get_or, arith, Option, Some, None, is_some, unwrap_or, option_map, option_and_then, refl, sym, ◌∙◌, ap, codes, bytes_eq, if◌then◌else◌, fold, subst}
+use Rattle.std.proofs.lemmas.List.{take_rest}
 use Rattle.std.proofs.lemmas.Slice.Eq.{bytes_eq-Decides}
 use Rattle.pe_lines.specs.declared.word.Word.{Word}
 use Rattle.pe_script.specs.Numerals.{bare}
@@ -117,12 +118,12 @@ other-text Allow text given w h = by_allow (is_some given.allow)
   where
     by_allow : (b : Bool) → IsOther (if b then None else Some (record given { allow = Some text; waiting = None }))
     by_allow true = tt
-    by_allow false = or-2 _ _ _ _ _
+    by_allow false = or-2 (is_some given.place) (is_some given.sandbox) given.fullscreen given.srcdoc false
 other-text Sandbox text given w h = by_sandbox (is_some given.sandbox)
   where
     by_sandbox : (b : Bool) → IsOther (if b then None else Some (record given { sandbox = Some text; waiting = None }))
     by_sandbox true = tt
-    by_sandbox false = or-3 _ _ _ _ _
+    by_sandbox false = or-3 (is_some given.place) (is_some given.allow) given.fullscreen given.srcdoc false
 other-text Header text given w h =
     subst (λ o. (is_some given.place || is_some given.allow || is_some given.sandbox || given.fullscreen || given.srcdoc || waits_other o) ≡ true) w h
 
@@ -134,15 +135,15 @@ other-name word given w h = by_fullscreen (is_keyword (codes "fullscreen") word)
 
     full : (b : Bool) → IsOther (if b then None else Some (record given { fullscreen = true }))
     full true = tt
-    full false = or-4 _ _ _ _ _
+    full false = or-4 (is_some given.place) (is_some given.allow) (is_some given.sandbox) given.srcdoc (waits_other given.waiting)
 
     src : (b : Bool) → IsOther (if b then None else Some (record given { srcdoc = true }))
     src true = tt
-    src false = or-5 _ _ _ _ _
+    src false = or-5 (is_some given.place) (is_some given.allow) (is_some given.sandbox) given.fullscreen (waits_other given.waiting)
 
     by_name : (o : Option OptionName) → IsOther (option_map (λ name. record given { waiting = Some name }) o)
     by_name None = tt
-    by_name (Some name) = or-more _ _ _ _ _ (is_other name) still
+    by_name (Some name) = or-more (is_some given.place) (is_some given.allow) (is_some given.sandbox) given.fullscreen given.srcdoc (is_other name) still
 
     by_srcdoc : (b : Bool) → IsOther (if b then (if given.srcdoc then None else Some (record given { srcdoc = true })) else option_map (λ name. record given { waiting = Some name }) (keyword_in option_names word))
     by_srcdoc true = src given.srcdoc
@@ -184,7 +185,7 @@ other-end (Some given) h = by_waiting given.waiting refl
 
     by_waiting : (o : Option OptionName) → given.waiting ≡ o → option_and_then only_header (if is_some o then None else Some given) ≡ None
     by_waiting (Some name) w = refl
-    by_waiting None w = by_only _ (less _ _ _ _ _ (subst (λ o. (is_some given.place || is_some given.allow || is_some given.sandbox || given.fullscreen || given.srcdoc || waits_other o) ≡ true) w h))
+    by_waiting None w = by_only (is_some given.place || is_some given.allow || is_some given.sandbox || given.fullscreen || given.srcdoc) (less (is_some given.place) (is_some given.allow) (is_some given.sandbox) given.fullscreen given.srcdoc (subst (λ o. (is_some given.place || is_some given.allow || is_some given.sandbox || given.fullscreen || given.srcdoc || waits_other o) ≡ true) w h))
 
 -- ---- a word that is not `header`
 
@@ -193,7 +194,7 @@ WaitsOther None = Unit {0}
 WaitsOther (Some name) = is_other name ≡ true
 
 other-named : (t : List ℕ) → bytes_eq t (codes "header") ≡ false → WaitsOther (named_in option_names t)
-other-named t no = by_tests _ _ _ _ refl refl refl refl
+other-named t differs = by_tests (bytes_eq (codes "at") t) (bytes_eq (codes "allow") t) (bytes_eq (codes "sandbox") t) (bytes_eq (codes "header") t) refl refl refl refl
   where
     by_tests : (a l s h : Bool) → bytes_eq (codes "at") t ≡ a → bytes_eq (codes "allow") t ≡ l → bytes_eq (codes "sandbox") t ≡ s → bytes_eq (codes "header") t ≡ h → WaitsOther (named_in option_names t)
     by_tests true l s h ea el es eh = rw ea refl
@@ -210,7 +211,7 @@ other-keyword-in word h = by_quotes word.quoted h
     by_quotes false e = other-named word.text e
 
 other-first : (word : Word) (h : Option (List ℕ)) → is_keyword (codes "header") word ≡ false → IsOther (with_name word (header_alone h None))
-other-first word h no = by_fullscreen (is_keyword (codes "fullscreen") word)
+other-first word h differs = by_fullscreen (is_keyword (codes "fullscreen") word)
   where
     by_name : (o : Option OptionName) → WaitsOther o → IsOther (option_map (λ name. header_alone h (Some name)) o)
     by_name None w = tt
@@ -218,7 +219,7 @@ other-first word h no = by_fullscreen (is_keyword (codes "fullscreen") word)
 
     by_srcdoc : (b : Bool) → IsOther (if b then Some (record (header_alone h None) { srcdoc = true }) else option_map (λ name. header_alone h (Some name)) (keyword_in option_names word))
     by_srcdoc true = refl
-    by_srcdoc false = by_name (keyword_in option_names word) (other-keyword-in word no)
+    by_srcdoc false = by_name (keyword_in option_names word) (other-keyword-in word differs)
 
     by_fullscreen : (b : Bool) → IsOther (if b then Some (record (header_alone h None) { fullscreen = true })
         else (if is_keyword (codes "srcdoc") word then Some (record (header_alone h None) { srcdoc = true }) else option_map (λ name. header_alone h (Some name)) (keyword_in option_names word)))
@@ -245,12 +246,13 @@ unended word h = by_fullscreen (is_keyword (codes "fullscreen") word)
 no-headers : (h : Option (List ℕ)) (words : List Word) → are_headers words ≡ false → option_and_then only_header (settled (fold step (Some (header_alone h None)) words)) ≡ None
 no-headers h [] e = cc
 no-headers h (name ∷ []) e = unended name h
-no-headers h (name ∷ text ∷ more) e = by_name (is_keyword (codes "header") name) refl e
+no-headers h (name ∷ text ∷ more) e = by_name (is_keyword (codes "header") name) refl e (λ later. no-headers (header_behind h text.text) more later)
   where
     by_name : (b : Bool) → is_keyword (codes "header") name ≡ b → (b && are_headers more) ≡ false
+        → (are_headers more ≡ false → option_and_then only_header (settled (fold step (Some (header_alone (header_behind h text.text) None)) more)) ≡ None)
         → option_and_then only_header (settled (fold step (Some (header_alone h None)) (name ∷ text ∷ more))) ≡ None
-    by_name true k later = rw (named-header name h k) (no-headers (header_behind h text.text) more later)
-    by_name false k later = other-end (fold step (Some (header_alone h None)) (name ∷ text ∷ more))
+    by_name true k none rest = rw (named-header name h k) (rest none)
+    by_name false k none rest = other-end (fold step (Some (header_alone h None)) (name ∷ text ∷ more))
         (other-stays (text ∷ more) (with_name name (header_alone h None)) (other-first name h k))
 
 pub headers-none : (words : List Word) → are_headers words ≡ false → headers words ≡ None
@@ -260,3 +262,30 @@ headers-none words e = no-headers None words e
 pub headers-some : (words : List Word) → are_headers words ≡ true → headers words ≡ Some (header_of None words)
 unfolding headers
 headers-some words e = rw (options-are words e) refl
+
+-- ---- the reader's steps: the word behind a name, and the words behind both
+
+behind-two : (name text : Word) (more : List Word) → take (length (name ∷ text ∷ more) - 2) (drop 2 (name ∷ text ∷ more)) ≡ more
+behind-two name text more = take_rest (name ∷ text ∷ more) 2
+
+pub one-header : (ws : List Word) (w : Word) (text : List ℕ) → 2 ≤ length ws → length ws < 3 → w ≡ get_or ws 1 w → text ≡ w.text → Some text ≡ header_of None ws
+one-header [] w text some few at is = absurd (omega arith)
+one-header (name ∷ []) w text some few at is = absurd (omega arith)
+one-header (name ∷ second ∷ []) w text some few at is = ap Some is ∙ ap (λ (x : Word). Some x.text) at
+one-header (name ∷ second ∷ third ∷ more) w text some few at is = absurd (omega arith)
+
+pub more-headers : (ws : List Word) (w : Word) (text all : List ℕ) → 2 ≤ length ws → w ≡ get_or ws 1 w → text ≡ w.text
+    → Some all ≡ header_of (Some text) (take (length ws - 2) (drop 2 ws)) → Some all ≡ header_of None ws
+more-headers [] w text all some at is e = absurd (omega arith)
+more-headers (name ∷ []) w text all some at is e = absurd (omega arith)
+more-headers (name ∷ second ∷ more) w text all some at is e =
+    e ∙ ap (header_of (Some text)) (behind-two name second more) ∙ ap (λ t. header_of (Some t) more) (is ∙ ap (λ (x : Word). x.text) at)
+
+pub header-step : (ws : List Word) (w : Word) (old middle text new : List ℕ) → 2 ≤ length ws → w ≡ get_or ws 1 w → text ≡ w.text → middle ≡ old ++ codes ", " → new ≡ middle ++ text
+    → header_of (Some old) ws ≡ header_of (Some new) (take (length ws - 2) (drop 2 ws))
+header-step [] w old middle text new some at is first second = absurd (omega arith)
+header-step (name ∷ []) w old middle text new some at is first second = absurd (omega arith)
+header-step (name ∷ word ∷ more) w old middle text new some at is first second =
+    let same : text ≡ word.text = is ∙ ap (λ (x : Word). x.text) at in
+    let joined : new ≡ old ++ codes ", " ++ word.text = second ∙ ap (λ m. m ++ text) first ∙ ap (λ t. (old ++ codes ", ") ++ t) same in
+    ap (λ all. header_of (Some all) more) (sym joined) ∙ ap (header_of (Some new)) (sym (behind-two name word more))
