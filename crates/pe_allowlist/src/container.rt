@@ -1,12 +1,14 @@
 //! Container policies: what an `allow` attribute gives the document below.
 ghost use Rattle.std.specs.Prelude.{◌≡◌};
 ghost use Rattle.std.specs.Option.{option_copied};
-ghost use Rattle.pe_allowlist.specs.Lists.{lists_of};
+ghost use Rattle.pe_features.specs.declared.feature.Feature.{Feature};
+ghost use Rattle.pe_allowlist.specs.Lists.{lists_of, no_lists};
 
 use crate::allowlist::Allowlist;
 use crate::pairs::find_list;
 use pe_features::Feature;
 use pe_origin::Origin;
+use std::alloc::Global;
 use std::marker::Model;
 
 /// The declared origin of a browsing context container (Permissions Policy, "declared origin").
@@ -35,6 +37,16 @@ impl Model for Container {
 }
 
 impl Container {
+    /// The empty map, as of an element without an `allow` attribute. It takes no memory.
+    #[tactic(auto, unfolding(crate::specs::Lists::lists_of))]
+    pub fn empty(alloc: Global) -> Container
+        ensures { (f : Feature) → lists_of result f ≡ no_lists f }
+    {
+        Container {
+            rows: Vec::new(alloc),
+        }
+    }
+
     /// The map of these pairs.
     pub(crate) fn of(rows: Vec<(Feature, Allowlist)>) -> Container
         ensures { result ≡ rows.items }

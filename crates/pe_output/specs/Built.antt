@@ -1,30 +1,31 @@
 -- Which lines are built: until a verb or an option is built, a line with it reads as `syntax`.
 -- It is this project's own, and grows with each step until every line is built.
 -- The text of the lines as they are built is that of `OutputText` over these readings.
-use Rattle.std.specs.Prelude.{ℕ, Bool, true, false, not, ◌&&◌, ◌||◌, List, [], ◌∷◌, codes, map, Option, Some, None, is_some, unwrap_or, option_map, option_and_then, if◌then◌else◌}
-use Rattle.pe_features.specs.Features.{feature_named, default_of}
+use Rattle.std.specs.Prelude.{ℕ, Bool, false, not, ◌&&◌, ◌||◌, List, [], ◌∷◌, codes, map, Option, Some, None, is_some, unwrap_or, option_map, if◌then◌else◌}
 use Rattle.pe_lines.specs.declared.word.Word.{Word}
 use Rattle.pe_lines.specs.Lines.{told_lines, told_ended_lines}
 use Rattle.pe_lines.specs.Words.{words_of}
 use Rattle.pe_events.specs.declared.cause.Cause.TheVariants as cause
-use Rattle.pe_script.specs.Numerals.{bare}
 use Rattle.pe_script.specs.Names.{is_keyword}
+use Rattle.pe_script.specs.Verbs.{headers}
 use Rattle.pe_script.specs.Reading.{Reading, Silent, Refusal, Says, reading_of}
 use Rattle.pe_output.specs.OutputText.{text_from, refuses_from}
 
--- the word is a URL that may stand here: a bare `none` is none
-abbrev pub is_url_word : Word → Bool
-is_url_word word = not (is_keyword (codes "none") word)
+-- a URL, where a bare `none` is none, and any number of `header TEXT`
+abbrev pub is_page : List Word → Bool
+is_page [] = false
+is_page (url ∷ more) = not (is_keyword (codes "none") url) && is_some (headers more)
 
--- the word is the bare name of a policy-controlled feature
-abbrev pub is_controlled_word : Word → Bool
-is_controlled_word word = is_some (option_and_then default_of (option_and_then feature_named (bare word)))
+-- the same behind a frame
+abbrev pub is_child : List Word → Bool
+is_child [] = false
+is_child (frame ∷ more) = is_page more
 
--- the words have a form that is built: `0 open URL`, `0 embed F URL` or `0 policy F FEATURE`
+-- the words have a form that is built, at time 0: a page, a child or a question on the policy, whose words the reading judges
 unfoldable pub is_built : List Word → Bool
-is_built (time ∷ verb ∷ url ∷ []) = is_keyword (codes "0") time && is_keyword (codes "open") verb && is_url_word url
-is_built (time ∷ verb ∷ frame ∷ last ∷ []) =
-    is_keyword (codes "0") time && (is_keyword (codes "embed") verb && is_url_word last || is_keyword (codes "policy") verb && is_controlled_word last)
+is_built (time ∷ verb ∷ more) =
+    is_keyword (codes "0") time
+    && (is_keyword (codes "open") verb && is_page more || is_keyword (codes "embed") verb && is_child more || is_keyword (codes "policy") verb)
 is_built words = false
 
 -- what words say, as far as it is built: the reading of words of another form is a refusal as `syntax`

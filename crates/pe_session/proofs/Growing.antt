@@ -10,7 +10,7 @@ use Rattle.pe_rules.specs.Embedders.{page_of_frame}
 use Rattle.pe_rules.specs.Current.{document_in, is_live}
 use Rattle.pe_rules.specs.Causes.{is_same_number, live_pages, live_frames}
 use Rattle.pe_laws.proofs.Numbers.{not_same, is_same}
-use Rattle.pe_session.specs.declared.events.Frame.{Frame}
+use Rattle.pe_session.specs.declared.frame.Frame.{Frame}
 use Rattle.pe_session.specs.Keeping.{IsKept, IsKeptAt, AreKept, statuses_made}
 use Rattle.pe_session.specs.Replying.{step_of}
 use Rattle.pe_session.proofs.Older.{IsQuiet, is-frame-older, parent-older, live-older, page-of-frame-older, kept-at-older, frames-step, frames-within, filter-same}

@@ -122,7 +122,7 @@ judged-says : (duration : ℕ) (old events : Events) (number : ℕ) (H : History
 judged-says duration old events number H line out new e (Refused why) h says r text = judged-refused duration events number H line out new e why says r text
 judged-says duration old events number H line out new e (FrameMade made origin) h says r text = judged-accepted duration old events number H line out new e _ h says r text
 judged-says duration old events number H line out new e Allowed h says r text = judged-accepted duration old events number H line out new e _ h says r text
-judged-says duration old events number H line out new e (Denied at) h says r text = judged-accepted duration old events number H line out new e _ h says r text
+judged-says duration old events number H line out new e (Denied denial) h says r text = judged-accepted duration old events number H line out new e _ h says r text
 
 pub judged-reply : (duration : ℕ) (old events : Events) (number : ℕ) (H : History) (line : Option (List ℕ)) (out new : List ℕ) (reading : Reading) (reply : Reply) → Stands duration old H → reading_built line ≡ reading
     → AnswersReading duration (told duration H) reading events reply → new ≡ out ++ answer_text number (told_reply reply) → Judged duration events number H line out new (is_refusal reply)

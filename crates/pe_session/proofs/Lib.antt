@@ -4,9 +4,11 @@ pub mod Stretches
 pub mod Outcomes
 pub mod Clauses
 pub mod Older
-pub mod Crossings
+pub mod Tables
+pub mod Framings
 pub mod Opening
 pub mod Growing
 pub mod Replies
+pub mod HeaderWords
 pub mod Sayings
 pub mod Judgings

@@ -11,8 +11,10 @@ use Rattle.pe_rules.specs.Statuses.{status_by}
 use Rattle.pe_laws.proofs.Numbers.{not_same}
 use Rattle.pe_laws.proofs.Older.{AllWithin, origin-older, chain-older, flag-older, declared-older, container-older, links-older, frame-older, chain-within, last-below}
 use Rattle.pe_laws.proofs.Current.{current-older}
-use Rattle.pe_session.specs.declared.events.Frame.{Frame}
-use Rattle.pe_session.specs.Keeping.{IsKept, IsKeptAt}
+use Rattle.pe_policy.specs.Failing.{Rows}
+use Rattle.pe_session.specs.declared.frame.Frame.{Frame}
+use Rattle.pe_session.specs.Saying.{page_event, child_event}
+use Rattle.pe_session.specs.Keeping.{HasPolicy, IsKept, IsKeptAt}
 
 -- the event ends no document, makes no document in an older frame, and makes no status
 pub record IsQuiet (e : Event) : Type 0 where
@@ -23,11 +25,11 @@ pub record IsQuiet (e : Event) : Type 0 where
 own-number : (k f : ℕ) → k ≢ f → when (k == f) k ≡ None
 own-number k f ne = rw (not_same k f ne) refl
 
-pub quiet-open : (url : List ℕ) → IsQuiet (event.OpenPage url None)
-quiet-open url = record { ends_none = λ frames. refl; own = own-number; status = λ B k. refl }
+pub quiet-open : (url : List ℕ) (header : Option (List ℕ)) → IsQuiet (page_event url header)
+quiet-open url header = record { ends_none = λ frames. refl; own = own-number; status = λ B k. refl }
 
-pub quiet-embed : (parent : ℕ) (url : List ℕ) → IsQuiet (event.Embed parent (Some url) None None None false false None)
-quiet-embed parent url = record { ends_none = λ frames. refl; own = own-number; status = λ B k. refl }
+pub quiet-embed : (parent : ℕ) (url : List ℕ) (header : Option (List ℕ)) → IsQuiet (child_event parent url header)
+quiet-embed parent url header = record { ends_none = λ frames. refl; own = own-number; status = λ B k. refl }
 
 pub quiet-policy : (frame : ℕ) (name : List ℕ) → IsQuiet (event.PolicyOf frame name)
 quiet-policy frame name = record { ends_none = λ frames. refl; own = λ k f ne. refl; status = λ B k. refl }
@@ -64,12 +66,21 @@ link-older : (s : Step) (T : Told) (d : ℕ) → d ≤ length T → link (s ∷ 
 unfolding link
 link-older s T d h = rw (origin-older s T d h, declared-older s T d h, container-older s T d h) refl
 
+-- the policy of a document stays
+policy-older : (s : Step) (T : Told) (k : ℕ) (policy : Rows) → k ≤ length T → HasPolicy T k policy → HasPolicy (s ∷ T) k policy
+policy-older s T k policy h w = record {
+  top = w.top;
+  rest = w.rest;
+  above = links-older s T k h ∙ w.above;
+  last = w.last ∙ sym (link-older s T k h);
+  stands = w.stands;
+}
+
 -- what is kept of a frame stays
 pub kept-older : (s : Step) (T : Told) (k : ℕ) (frame : Frame) → IsQuiet s.event → k ≤ length T → IsKept T k frame → IsKept (s ∷ T) k frame
 kept-older s T k frame q h w =
     let ne : k ≢ suc (length T) = omega arith in
     let en : suc (length T) ≢ k = omega arith in
-    let (before, e) = w.above in
     record {
       made = is-frame-older s T k ne ∙ w.made;
       document = last-older s T k q en ∙ w.document;
@@ -80,9 +91,7 @@ kept-older s T k frame q h w =
       shallow = w.shallow;
       origin = origin-older s T k h ∙ w.origin;
       flag = flag-older s T k h ∙ w.flag;
-      above = (before, links-older s T k h ∙ e ∙ ap (λ l. before ++ l ∷ []) (sym (link-older s T k h)));
-      plain = rw (links-older s T k h) w.plain;
-      crossing = rw (links-older s T k h) w.crossing;
+      policy = policy-older s T k frame.policy h w.policy;
     }
 
 pub kept-at-older : (s : Step) (T : Told) (k : ℕ) (o : Option Frame) → IsQuiet s.event → k ≤ length T → IsKeptAt T k o → IsKeptAt (s ∷ T) k o

@@ -1,18 +1,17 @@
 -- What an opened page and an embedded frame add.
-use Rattle.std.proofs.Common.{◌≡◌, ℕ, suc, ◌+◌, ◌<◌, ◌≤◌, Bool, true, false, not, List, [], ◌∷◌, ◌++◌, length, map, Option, Some, None, is_some, option_map, refl, sym, ◌∙◌, ap, arith, append_assoc, if◌then◌else◌}
+use Rattle.std.proofs.Common.{◌≡◌, ℕ, suc, ◌+◌, ◌<◌, ◌≤◌, Bool, true, false, List, [], ◌∷◌, ◌++◌, length, map, Option, Some, None, is_some, option_map, refl, sym, ◌∙◌, ap, arith, if◌then◌else◌}
 use Rattle.std.proofs.lemmas.List.{map-append, length_push, length-map}
 use Rattle.std.specs.Option.{option_or}
 use Rattle.pe_origin.specs.declared.origin.Origin.{Origin}
-use Rattle.pe_origin.specs.Origins.{is_same_origin}
-use Rattle.pe_events.specs.declared.event.Event.{Event}
-use Rattle.pe_events.specs.declared.event.Event.TheVariants as event
+use Rattle.pe_origin.specs.declared.place.Place.{Place}
 use Rattle.pe_allowlist.specs.ContainerPolicy.{container_policy, list_by_pieces}
 use Rattle.pe_allowlist.specs.AsciiWords.{pieces_at, ascii_words}
 use Rattle.pe_allowlist.specs.declared.container.DeclaredOrigin.{DeclaredOrigin}
-use Rattle.pe_header.specs.DeclaredPolicy.{declared_policy}
 use Rattle.pe_features.specs.declared.feature.Feature.{Feature}
 use Rattle.pe_features.specs.Features.{default_of}
-use Rattle.pe_rules.specs.History.{Item, Step, Told, when, newest, since}
+use Rattle.pe_policy.specs.Links.{Link, last_link}
+use Rattle.pe_policy.specs.Failing.{Rows}
+use Rattle.pe_rules.specs.History.{Item, Step, Told, newest, since}
 use Rattle.pe_rules.specs.Attributes.{no_attributes}
 use Rattle.pe_rules.specs.Numbering.{is_frame, last_document}
 use Rattle.pe_rules.specs.Making.{Making, making_by, making, along, frame_of}
@@ -22,22 +21,23 @@ use Rattle.pe_rules.specs.Origins.{origin_of, sandbox_flag, origin_of_place, pla
 use Rattle.pe_rules.specs.Denials.{declared_lists, container_in, container_lists, link, links}
 use Rattle.pe_laws.proofs.Numbers.{is_same, is_within}
 use Rattle.pe_laws.proofs.Older.{links-older, chain-older, frame-older, chain-within}
-use Rattle.pe_session.specs.declared.events.Frame.{Frame}
-use Rattle.pe_session.specs.Keeping.{IsPlain, IsKept, first_crossing}
-use Rattle.pe_session.specs.Replying.{step_of, child_origin, crossing_below}
+use Rattle.pe_session.specs.declared.frame.Frame.{Frame}
+use Rattle.pe_session.specs.Framing.{child_origin, IsLinkOf, IsPage, IsChild}
+use Rattle.pe_session.specs.Keeping.{HasPolicy, IsKept}
+use Rattle.pe_session.specs.Replying.{step_of}
+use Rattle.pe_session.specs.Saying.{page_event, child_event}
 use Rattle.pe_session.proofs.Older.{first-within}
-use Rattle.pe_session.proofs.Crossings.{crossed, crossing-append, plain-append}
 
 -- the making of a page's document
-abbrev pub page_making : List ℕ → Told → Making
-page_making url T = record { frame = length T + 1; url = url; header = None; embedder = None; srcdoc = false; attributes = no_attributes }
+abbrev pub page_making : List ℕ → Option (List ℕ) → Told → Making
+page_making url header T = record { frame = length T + 1; url = url; header = header; embedder = None; srcdoc = false; attributes = no_attributes }
 
 -- the making of an embedded document
-abbrev pub child_making : ℕ → List ℕ → Told → Making
-child_making parent url T = record {
+abbrev pub child_making : ℕ → List ℕ → Option (List ℕ) → Told → Making
+child_making parent url header T = record {
   frame = length T + 1;
   url = url;
-  header = None;
+  header = header;
   embedder = last_document T parent;
   srcdoc = false;
   attributes = record { src = Some url; srcdoc = false; allow = None; sandbox = None; fullscreen = false };
@@ -60,11 +60,7 @@ frame-of-new : (s : Step) (T : Told) (m : Making) → making_by s.event T ≡ So
 unfolding frame_of
 frame-of-new s T m e = rw (making-new s T m e) refl
 
--- no header declares nothing, and no `allow` attribute gives nothing
-nothing-declared : (own : Origin) (f : Feature) → declared_policy None own f ≡ None
-unfolding declared_policy
-nothing-declared own f = refl
-
+-- no `allow` attribute gives nothing
 neither : {A : Type 0} (b : Bool) (o : Option A) → o ≡ None → option_or (if b then o else None) None ≡ None
 neither true o e = rw e refl
 neither false o e = refl
@@ -73,115 +69,121 @@ nothing-allowed : (embedder : Origin) (declared : DeclaredOrigin) (f : Feature) 
 unfolding container_policy list_by_pieces pieces_at ascii_words
 nothing-allowed embedder declared f = neither (is_some (default_of f)) _ refl
 
-plain-page : (s : Step) (T : Told) (url : List ℕ) → making_by s.event T ≡ Some (page_making url T) → IsPlain (link (s ∷ T) (suc (length T)))
-unfolding link declared_lists container_lists
-plain-page s T url e = record {
-  declared = λ f. rw (making-new s T (page_making url T) e) (nothing-declared _ f);
-  container = λ f. rw (making-new s T (page_making url T) e) refl;
+-- the link of a document that was made last
+link-new : (s : Step) (T : Told) (m : Making) (o : Origin) → making_by s.event T ≡ Some m → origin_of (s ∷ T) (suc (length T)) ≡ o
+    → IsLinkOf (link (s ∷ T) (suc (length T))) (suc (length T)) o m.header
+unfolding link declared_lists
+link-new s T m o e is = record {
+  numbered = refl;
+  of_origin = is;
+  declares = λ f. rw (making-new s T m e, is) refl;
 }
 
-plain-child : (s : Step) (T : Told) (parent : ℕ) (url : List ℕ) → making_by s.event T ≡ Some (child_making parent url T) → last_document T parent ≡ Some parent → IsPlain (link (s ∷ T) (suc (length T)))
-unfolding link declared_lists container_lists container_in
-plain-child s T parent url e last = record {
-  declared = λ f. rw (making-new s T (child_making parent url T) e) (nothing-declared _ f);
-  container = λ f. rw (making-new s T (child_making parent url T) e, last) (nothing-allowed _ _ f);
-}
+container-child : (s : Step) (T : Told) (parent : ℕ) (url : List ℕ) (header : Option (List ℕ)) (f : Feature) → making_by s.event T ≡ Some (child_making parent url header T)
+    → last_document T parent ≡ Some parent → (link (s ∷ T) (suc (length T))).container f ≡ None
+unfolding link container_lists container_in
+container-child s T parent url header f e last = rw (making-new s T (child_making parent url header T) e, last) (nothing-allowed _ _ f)
+
+last-append : (top : Link) (rest : List Link) (child : Link) → last_link top (rest ++ child ∷ []) ≡ child
+last-append top [] child = refl
+last-append top (next ∷ rest) child = last-append next rest child
 
 -- ---- a page
 
-page-made : (T : Told) (url : List ℕ) (item : Item) → making_by (step_of (event.OpenPage url None) item).event T ≡ Some (page_making url T)
+page-made : (T : Told) (url : List ℕ) (header : Option (List ℕ)) (item : Item) → making_by (step_of (page_event url header) item).event T ≡ Some (page_making url header T)
 unfolding making_by
-page-made T url item = refl
+page-made T url header item = refl
 
-chain-page : (T : Told) (url : List ℕ) (item : Item) → chain (step_of (event.OpenPage url None) item ∷ T) (suc (length T)) ≡ suc (length T) ∷ []
+chain-page : (T : Told) (url : List ℕ) (header : Option (List ℕ)) (item : Item) → chain (step_of (page_event url header) item ∷ T) (suc (length T)) ≡ suc (length T) ∷ []
 unfolding chain
-chain-page T url item = along-new _ _ (step_of (event.OpenPage url None) item) T (page_making url T) (page-made T url item)
+chain-page T url header item = along-new _ _ (step_of (page_event url header) item) T (page_making url header T) (page-made T url header item)
 
-flag-page : (T : Told) (url : List ℕ) (item : Item) → sandbox_flag (step_of (event.OpenPage url None) item ∷ T) (suc (length T)) ≡ false
+flag-page : (T : Told) (url : List ℕ) (header : Option (List ℕ)) (item : Item) → sandbox_flag (step_of (page_event url header) item ∷ T) (suc (length T)) ≡ false
 unfolding sandbox_flag
-flag-page T url item = along-new _ _ (step_of (event.OpenPage url None) item) T (page_making url T) (page-made T url item)
+flag-page T url header item = along-new _ _ (step_of (page_event url header) item) T (page_making url header T) (page-made T url header item)
 
 either-way : {A : Type 0} (b : Bool) (x : A) → (if b then x else x) ≡ x
 either-way true x = refl
 either-way false x = refl
 
-pub origin-page : (T : Told) (url : List ℕ) (item : Item) → origin_of (step_of (event.OpenPage url None) item ∷ T) (suc (length T)) ≡ origin_of_place (suc (length T)) (place_or_none url)
+pub origin-page : (T : Told) (url : List ℕ) (header : Option (List ℕ)) (item : Item) → origin_of (step_of (page_event url header) item ∷ T) (suc (length T)) ≡ origin_of_place (suc (length T)) (place_or_none url)
 unfolding origin_of
-origin-page T url item =
-    along-new _ _ (step_of (event.OpenPage url None) item) T (page_making url T) (page-made T url item)
-    ∙ rw (flag-page T url item) (either-way (is_blank_kind (place_or_none url).kind) (origin_of_place (suc (length T)) (place_or_none url)))
+origin-page T url header item =
+    along-new _ _ (step_of (page_event url header) item) T (page_making url header T) (page-made T url header item)
+    ∙ rw (flag-page T url header item) (either-way (is_blank_kind (place_or_none url).kind) (origin_of_place (suc (length T)) (place_or_none url)))
 
-frame-page : (T : Told) (url : List ℕ) (item : Item) → is_frame (step_of (event.OpenPage url None) item ∷ T) (suc (length T)) ≡ true
+frame-page : (T : Told) (url : List ℕ) (header : Option (List ℕ)) (item : Item) → is_frame (step_of (page_event url header) item ∷ T) (suc (length T)) ≡ true
 unfolding is_frame newest
-frame-page T url item = rw (is_same (suc (length T))) refl
+frame-page T url header item = rw (is_same (suc (length T))) refl
 
-last-page : (T : Told) (url : List ℕ) (item : Item) → last_document (step_of (event.OpenPage url None) item ∷ T) (suc (length T)) ≡ Some (suc (length T))
+last-page : (T : Told) (url : List ℕ) (header : Option (List ℕ)) (item : Item) → last_document (step_of (page_event url header) item ∷ T) (suc (length T)) ≡ Some (suc (length T))
 unfolding last_document newest
-last-page T url item = rw (is_same (suc (length T))) refl
+last-page T url header item = rw (is_same (suc (length T))) refl
 
-top-page : (T : Told) (url : List ℕ) (item : Item) → page (step_of (event.OpenPage url None) item ∷ T) (suc (length T)) ≡ length T + 1
+top-page : (T : Told) (url : List ℕ) (header : Option (List ℕ)) (item : Item) → page (step_of (page_event url header) item ∷ T) (suc (length T)) ≡ length T + 1
 unfolding page top_document
-top-page T url item = rw (chain-page T url item) (frame-of-new (step_of (event.OpenPage url None) item) T (page_making url T) (page-made T url item))
+top-page T url header item = rw (chain-page T url header item) (frame-of-new (step_of (page_event url header) item) T (page_making url header T) (page-made T url header item))
 
-links-page : (T : Told) (url : List ℕ) (item : Item)
-    → links (step_of (event.OpenPage url None) item ∷ T) (suc (length T)) ≡ link (step_of (event.OpenPage url None) item ∷ T) (suc (length T)) ∷ []
+links-page : (T : Told) (url : List ℕ) (header : Option (List ℕ)) (item : Item)
+    → links (step_of (page_event url header) item ∷ T) (suc (length T)) ≡ link (step_of (page_event url header) item ∷ T) (suc (length T)) ∷ []
 unfolding links
-links-page T url item = rw (chain-page T url item) refl
+links-page T url header item = rw (chain-page T url header item) refl
 
-pub kept-page : (T : Told) (url : List ℕ) (item : Item) (o : Origin) → o ≡ origin_of_place (suc (length T)) (place_or_none url)
-    → IsKept (step_of (event.OpenPage url None) item ∷ T) (suc (length T)) (record { page = length T; depth = 1; origin = o; crossing = None })
-kept-page T url item o is =
-    let s = step_of (event.OpenPage url None) item in
+pub kept-page : (T : Told) (url : List ℕ) (header : Option (List ℕ)) (item : Item) (row : Frame) (p : Place) → place_or_none url ≡ p → IsPage (suc (length T)) p header row
+    → IsKept (step_of (page_event url header) item ∷ T) (suc (length T)) row
+kept-page T url header item row p place is =
+    let s = step_of (page_event url header) item in
+    let own : origin_of (s ∷ T) (suc (length T)) ≡ row.origin = origin-page T url header item ∙ ap (origin_of_place (suc (length T))) place ∙ sym is.origin in
     record {
-      made = frame-page T url item;
-      document = last-page T url item;
-      current = current-new s T (page_making url T) (page-made T url item);
-      top = top-page T url item;
-      below = omega arith;
-      depth = ap length (chain-page T url item);
-      shallow = omega arith;
-      origin = origin-page T url item ∙ sym is;
-      flag = flag-page T url item;
-      above = ([], links-page T url item);
-      plain = rw (links-page T url item) (plain-page s T url (page-made T url item), tt);
-      crossing = rw (links-page T url item) refl;
+      made = frame-page T url header item;
+      document = last-page T url header item;
+      current = current-new s T (page_making url header T) (page-made T url header item);
+      top = top-page T url header item ∙ omega (arith, is.page);
+      below = omega (arith, is.page);
+      depth = ap length (chain-page T url header item) ∙ sym is.depth;
+      shallow = omega (arith, is.depth);
+      origin = own;
+      flag = flag-page T url header item;
+      policy = record {
+        top = link (s ∷ T) (suc (length T));
+        rest = [];
+        above = links-page T url header item;
+        last = refl;
+        stands = is.stands (link (s ∷ T) (suc (length T))) (link-new s T (page_making url header T) row.origin (page-made T url header item) own);
+      };
     }
 
 -- ---- an embedded frame
 
--- the event that embeds a frame
-abbrev pub embedding : ℕ → List ℕ → Event
-embedding parent url = event.Embed parent (Some url) None None None false false None
-
-child-made : (T : Told) (parent : ℕ) (url : List ℕ) (item : Item) → making_by (step_of (embedding parent url) item).event T ≡ Some (child_making parent url T)
+child-made : (T : Told) (parent : ℕ) (url : List ℕ) (header : Option (List ℕ)) (item : Item) → making_by (step_of (child_event parent url header) item).event T ≡ Some (child_making parent url header T)
 unfolding making_by
-child-made T parent url item = refl
+child-made T parent url header item = refl
 
-chain-child : (T : Told) (parent : ℕ) (url : List ℕ) (item : Item) → last_document T parent ≡ Some parent
-    → chain (step_of (embedding parent url) item ∷ T) (suc (length T)) ≡ chain T parent ++ suc (length T) ∷ []
+chain-child : (T : Told) (parent : ℕ) (url : List ℕ) (header : Option (List ℕ)) (item : Item) → last_document T parent ≡ Some parent
+    → chain (step_of (child_event parent url header) item ∷ T) (suc (length T)) ≡ chain T parent ++ suc (length T) ∷ []
 unfolding chain
-chain-child T parent url item last =
-    along-new _ _ (step_of (embedding parent url) item) T (child_making parent url T) (child-made T parent url item) ∙ rw last refl
+chain-child T parent url header item last =
+    along-new _ _ (step_of (child_event parent url header) item) T (child_making parent url header T) (child-made T parent url header item) ∙ rw last refl
 
-flag-child : (T : Told) (parent : ℕ) (url : List ℕ) (item : Item) → last_document T parent ≡ Some parent → sandbox_flag T parent ≡ false
-    → sandbox_flag (step_of (embedding parent url) item ∷ T) (suc (length T)) ≡ false
+flag-child : (T : Told) (parent : ℕ) (url : List ℕ) (header : Option (List ℕ)) (item : Item) → last_document T parent ≡ Some parent → sandbox_flag T parent ≡ false
+    → sandbox_flag (step_of (child_event parent url header) item ∷ T) (suc (length T)) ≡ false
 unfolding sandbox_flag
-flag-child T parent url item last flag =
-    along-new _ _ (step_of (embedding parent url) item) T (child_making parent url T) (child-made T parent url item) ∙ rw (last, flag) refl
+flag-child T parent url header item last flag =
+    along-new _ _ (step_of (child_event parent url header) item) T (child_making parent url header T) (child-made T parent url header item) ∙ rw (last, flag) refl
 
-pub origin-child : (T : Told) (parent : ℕ) (url : List ℕ) (item : Item) → last_document T parent ≡ Some parent → sandbox_flag T parent ≡ false
-    → origin_of (step_of (embedding parent url) item ∷ T) (suc (length T)) ≡ child_origin (origin_of T parent) (suc (length T)) (place_or_none url)
+pub origin-child : (T : Told) (parent : ℕ) (url : List ℕ) (header : Option (List ℕ)) (item : Item) → last_document T parent ≡ Some parent → sandbox_flag T parent ≡ false
+    → origin_of (step_of (child_event parent url header) item ∷ T) (suc (length T)) ≡ child_origin (origin_of T parent) (suc (length T)) (place_or_none url)
 unfolding origin_of
-origin-child T parent url item last flag =
-    along-new _ _ (step_of (embedding parent url) item) T (child_making parent url T) (child-made T parent url item) ∙ rw (flag-child T parent url item last flag, last) refl
+origin-child T parent url header item last flag =
+    along-new _ _ (step_of (child_event parent url header) item) T (child_making parent url header T) (child-made T parent url header item) ∙ rw (flag-child T parent url header item last flag, last) refl
 
-frame-child : (T : Told) (parent : ℕ) (url : List ℕ) (item : Item) → is_frame (step_of (embedding parent url) item ∷ T) (suc (length T)) ≡ true
+frame-child : (T : Told) (parent : ℕ) (url : List ℕ) (header : Option (List ℕ)) (item : Item) → is_frame (step_of (child_event parent url header) item ∷ T) (suc (length T)) ≡ true
 unfolding is_frame newest
-frame-child T parent url item = rw (is_same (suc (length T))) refl
+frame-child T parent url header item = rw (is_same (suc (length T))) refl
 
-last-child : (T : Told) (parent : ℕ) (url : List ℕ) (item : Item) → last_document (step_of (embedding parent url) item ∷ T) (suc (length T)) ≡ Some (suc (length T))
+last-child : (T : Told) (parent : ℕ) (url : List ℕ) (header : Option (List ℕ)) (item : Item) → last_document (step_of (child_event parent url header) item ∷ T) (suc (length T)) ≡ Some (suc (length T))
 unfolding last_document newest
-last-child T parent url item = rw (is_same (suc (length T))) refl
+last-child T parent url header item = rw (is_same (suc (length T))) refl
 
 first-append : (xs ys : List ℕ) (d e : ℕ) → 1 ≤ length xs → first_or d (xs ++ ys) ≡ first_or e xs
 first-append [] ys d e some = absurd (omega arith)
@@ -192,15 +194,15 @@ unfolding links
 length-links T d = length-map (chain T d) (link T)
 
 some-chain : (T : Told) (k : ℕ) (row : Frame) → IsKept T k row → 1 ≤ length (chain T k)
-some-chain T k row w = let (before, e) = w.above in omega (arith, length-links T k, ap length e, length_push before (link T k))
+some-chain T k row w = omega (arith, length-links T k, ap length w.policy.above)
 
-top-child : (T : Told) (parent : ℕ) (url : List ℕ) (item : Item) (row : Frame) → IsKept T parent row → parent ≤ length T
-    → page (step_of (embedding parent url) item ∷ T) (suc (length T)) ≡ page T parent
+top-child : (T : Told) (parent : ℕ) (url : List ℕ) (header : Option (List ℕ)) (item : Item) (row : Frame) → IsKept T parent row → parent ≤ length T
+    → page (step_of (child_event parent url header) item ∷ T) (suc (length T)) ≡ page T parent
 unfolding page top_document
-top-child T parent url item row w h =
+top-child T parent url header item row w h =
     let some = some-chain T parent row w in
-    rw (chain-child T parent url item w.document, first-append (chain T parent) (suc (length T) ∷ []) (suc (length T)) parent some)
-    (frame-older (step_of (embedding parent url) item) T (first_or parent (chain T parent)) (first-within (length T) parent (chain T parent) h (chain-within T parent)))
+    rw (chain-child T parent url header item w.document, first-append (chain T parent) (suc (length T) ∷ []) (suc (length T)) parent some)
+    (frame-older (step_of (child_event parent url header) item) T (first_or parent (chain T parent)) (first-within (length T) parent (chain T parent) h (chain-within T parent)))
 
 of-chain : (U : Told) (k : ℕ) (ds : List ℕ) → chain U k ≡ ds ++ k ∷ [] → links U k ≡ map (link U) ds ++ link U k ∷ []
 unfolding links
@@ -210,48 +212,49 @@ of-older : (U : Told) (k : ℕ) (ds : List ℕ) → chain U k ≡ ds → links U
 unfolding links
 of-older U k ds e = rw e refl
 
-links-child : (T : Told) (parent : ℕ) (url : List ℕ) (item : Item) (row : Frame) → IsKept T parent row → parent ≤ length T
-    → links (step_of (embedding parent url) item ∷ T) (suc (length T)) ≡ links T parent ++ link (step_of (embedding parent url) item ∷ T) (suc (length T)) ∷ []
-links-child T parent url item row w h =
-    let s = step_of (embedding parent url) item in
-    of-chain (s ∷ T) (suc (length T)) (chain T parent) (chain-child T parent url item w.document)
+links-child : (T : Told) (parent : ℕ) (url : List ℕ) (header : Option (List ℕ)) (item : Item) (row : Frame) → IsKept T parent row → parent ≤ length T
+    → links (step_of (child_event parent url header) item ∷ T) (suc (length T)) ≡ links T parent ++ link (step_of (child_event parent url header) item ∷ T) (suc (length T)) ∷ []
+links-child T parent url header item row w h =
+    let s = step_of (child_event parent url header) item in
+    of-chain (s ∷ T) (suc (length T)) (chain T parent) (chain-child T parent url header item w.document)
     ∙ ap (λ l. l ++ link (s ∷ T) (suc (length T)) ∷ []) (sym (of-older (s ∷ T) parent (chain T parent) (chain-older s T parent h)) ∙ links-older s T parent h)
 
-below-is : (a : Option ℕ) (embedder own : Origin) (k : ℕ) → option_or a (when (not (is_same_origin own embedder)) k) ≡ crossing_below a embedder k own
-below-is (Some at) embedder own k = refl
-below-is None embedder own k = by_test (is_same_origin own embedder)
-  where
-    by_test : (b : Bool) → when (not b) k ≡ (if b then None else Some k)
-    by_test true = refl
-    by_test false = refl
-
-crossed-is : (U T : Told) (k p : ℕ) (own embedder : Origin) → origin_of U k ≡ own → origin_of T p ≡ embedder → crossed (link T p) (link U k) ≡ when (not (is_same_origin own embedder)) k
+origin-last : (T : Told) (k : ℕ) (row : Frame) (w : IsKept T k row) → (last_link w.policy.top w.policy.rest).origin ≡ row.origin
 unfolding link
-crossed-is U T k p own embedder e f = rw (e, f) refl
+origin-last T k row w = ap (λ (l : Link). l.origin) w.policy.last ∙ w.origin
 
-pub kept-child : (T : Told) (parent : ℕ) (url : List ℕ) (item : Item) (row : Frame) (o : Origin) (depth : ℕ) (at : Option ℕ) → IsKept T parent row → parent ≤ length T → row.depth < 64
-    → o ≡ child_origin row.origin (suc (length T)) (place_or_none url) → depth ≡ row.depth + 1 → at ≡ crossing_below row.crossing row.origin (suc (length T)) o
-    → IsKept (step_of (embedding parent url) item ∷ T) (suc (length T)) (record { page = row.page; depth = depth; origin = o; crossing = at })
-kept-child T parent url item row o depth at w h shallow is deeper crosses =
-    let s = step_of (embedding parent url) item in
-    let (before, e) = w.above in
-    let own : origin_of (s ∷ T) (suc (length T)) ≡ o = origin-child T parent url item w.document w.flag ∙ ap (λ x. child_origin x (suc (length T)) (place_or_none url)) w.origin ∙ sym is in
-    let all = links-child T parent url item row w h in
+-- the policy of an embedded document
+policy-child : (T : Told) (parent : ℕ) (url : List ℕ) (header : Option (List ℕ)) (item : Item) (row child : Frame) (p : Place) → IsKept T parent row → parent ≤ length T
+    → IsChild row (suc (length T)) p header child → origin_of (step_of (child_event parent url header) item ∷ T) (suc (length T)) ≡ child.origin
+    → HasPolicy (step_of (child_event parent url header) item ∷ T) (suc (length T)) child.policy
+policy-child T parent url header item row child p w h is own =
+    let s = step_of (child_event parent url header) item in
+    let l = link (s ∷ T) (suc (length T)) in
     record {
-      made = frame-child T parent url item;
-      document = last-child T parent url item;
-      current = current-new s T (child_making parent url T) (child-made T parent url item);
-      top = top-child T parent url item row w h ∙ w.top;
-      below = omega (arith, w.below);
-      depth = omega (arith, ap length (chain-child T parent url item w.document), length_push (chain T parent) (suc (length T)), w.depth);
-      shallow = omega arith;
+      top = w.policy.top;
+      rest = w.policy.rest ++ l ∷ [];
+      above = links-child T parent url header item row w h ∙ ap (λ xs. xs ++ l ∷ []) w.policy.above;
+      last = last-append w.policy.top w.policy.rest l;
+      stands = is.stands w.policy.top w.policy.rest l w.policy.stands (origin-last T parent row w)
+          (link-new s T (child_making parent url header T) child.origin (child-made T parent url header item) own)
+          (λ f. container-child s T parent url header f (child-made T parent url header item) w.document);
+    }
+
+pub kept-child : (T : Told) (parent : ℕ) (url : List ℕ) (header : Option (List ℕ)) (item : Item) (row child : Frame) (p : Place) → IsKept T parent row → parent ≤ length T → row.depth < 64
+    → place_or_none url ≡ p → IsChild row (suc (length T)) p header child → IsKept (step_of (child_event parent url header) item ∷ T) (suc (length T)) child
+kept-child T parent url header item row child p w h shallow place is =
+    let s = step_of (child_event parent url header) item in
+    let own : origin_of (s ∷ T) (suc (length T)) ≡ child.origin
+    = origin-child T parent url header item w.document w.flag ∙ ap (λ x. child_origin x (suc (length T)) (place_or_none url)) w.origin ∙ ap (child_origin row.origin (suc (length T))) place ∙ sym is.origin in
+    record {
+      made = frame-child T parent url header item;
+      document = last-child T parent url header item;
+      current = current-new s T (child_making parent url header T) (child-made T parent url header item);
+      top = top-child T parent url header item row w h ∙ w.top ∙ ap (λ n. n + 1) (sym is.page);
+      below = omega (arith, w.below, is.page);
+      depth = omega (arith, ap length (chain-child T parent url header item w.document), length_push (chain T parent) (suc (length T)), w.depth, is.depth);
+      shallow = omega (arith, is.depth);
       origin = own;
-      flag = flag-child T parent url item w.document w.flag;
-      above = (links T parent, all);
-      plain = rw all (plain-append (links T parent) (link (s ∷ T) (suc (length T))) w.plain (plain-child s T parent url (child-made T parent url item) w.document));
-      crossing = ap first_crossing (all ∙ ap (λ l. l ++ link (s ∷ T) (suc (length T)) ∷ []) e ∙ append_assoc before (link T parent ∷ []) (link (s ∷ T) (suc (length T)) ∷ []))
-          ∙ crossing-append before (link T parent) (link (s ∷ T) (suc (length T)))
-          ∙ ap (λ x. option_or x (crossed (link T parent) (link (s ∷ T) (suc (length T))))) (ap first_crossing (sym e) ∙ w.crossing)
-          ∙ ap (option_or row.crossing) (crossed-is (s ∷ T) T (suc (length T)) parent o row.origin own w.origin)
-          ∙ below-is row.crossing row.origin o (suc (length T)) ∙ sym crosses;
+      flag = flag-child T parent url header item w.document w.flag;
+      policy = policy-child T parent url header item row child p w h is own;
     }

@@ -1,154 +1,147 @@
 -- What the words of a line say, in the forms that are built.
-use Rattle.std.proofs.Common.{◌≡◌, ℕ, suc, ◌+◌, ◌<◌, ◌≤◌, Bool, true, false, not, ◌&&◌, ◌||◌, ◌==◌, List, [], ◌∷◌, length, drop, get_or, Option, Some, None, is_some, unwrap_or, option_map, option_and_then, refl, sym, ◌∙◌, ap, codes, bytes_eq, if◌then◌else◌, add-one}
+use Rattle.std.proofs.Common.{◌≡◌, ℕ, suc, ◌+◌, ◌<◌, ◌≤◌, Bool, true, false, not, ◌&&◌, ◌||◌, ◌==◌, List, [], ◌∷◌, length, drop, get_or, Option, Some, None, is_some, unwrap_or, option_map, option_and_then, refl, sym, ◌∙◌, ap, codes, if◌then◌else◌, add-one}
 use Rattle.std.proofs.Math.Seq.{drop-cons}
 use Rattle.std.proofs.lemmas.List.{drop_all}
-use Rattle.std.proofs.lemmas.Slice.Eq.{bytes_eq-Decides}
-use Rattle.pe_features.specs.declared.feature.DefaultList.{DefaultList}
-use Rattle.pe_features.specs.Features.{feature_named, default_of}
 use Rattle.pe_lines.specs.declared.word.Word.{Word}
 use Rattle.pe_lines.specs.Words.{is_blank, is_blank_line, is_comment, has_bad_byte, words_of}
 use Rattle.pe_events.specs.declared.cause.Cause.TheVariants as cause
 use Rattle.pe_events.specs.declared.event.Event.{Event}
 use Rattle.pe_events.specs.declared.event.Event.TheVariants as event
 use Rattle.pe_events.specs.Timed.{Timed}
-use Rattle.pe_script.specs.Numerals.{bare, time_of}
+use Rattle.pe_script.specs.Numerals.{time_of}
 use Rattle.pe_script.specs.Names.{is_keyword}
-use Rattle.pe_script.specs.Verbs.{frame_word, headers, options, event_of}
+use Rattle.pe_script.specs.Verbs.{frame_word, headers, options, embedding, read_open, read_embed, read_with_name, event_of}
 use Rattle.pe_script.specs.Reading.{Reading, Silent, Refusal, Says, timed_of, reading_of}
-use Rattle.pe_output.specs.Built.{is_built, as_built, reading_built}
-use Rattle.pe_session.specs.Saying.{is_silent, default_word, embed_said, open_said, event_built, reading_said}
+use Rattle.pe_output.specs.Built.{is_page, is_child, is_built, as_built, reading_built}
+use Rattle.pe_session.specs.Headers.{are_headers, header_of}
+use Rattle.pe_session.specs.Saying.{is_silent, page_event, child_event, is_place, open_said, embed_said, event_by_verb, event_built, reading_said}
+use Rattle.pe_session.proofs.HeaderWords.{keyword-bare, header_alone, options-are, headers-none, headers-some}
 
--- ---- blanks and comments
+-- ---- the words behind a verb
 
-bytes-same : (a b : List ℕ) → bytes_eq a b ≡ true → a ≡ b
-bytes-same a b h = (bytes_eq-Decides a b).0 h
+open-words : (url : Word) (more : List Word) (n h : Bool) → is_keyword (codes "none") url ≡ n → are_headers more ≡ h
+    → (if is_page (url ∷ more) then read_open (url ∷ more) else None) ≡ open_said (url ∷ more)
+open-words url more true h n e = rw n refl
+open-words url more false true n e = rw (n, e, headers-some more e) refl
+open-words url more false false n e = rw (n, e, headers-none more e) refl
 
--- a bare word that is a keyword
-keyword-bare : (k : List ℕ) (w : Word) → is_keyword k w ≡ true → bare w ≡ Some k
-keyword-bare k w h = by_quotes w.quoted h
+opened : (more : List Word) → (if is_page more then read_open more else None) ≡ open_said more
+opened [] = refl
+opened (url ∷ more) = open-words url more _ _ refl refl
+
+then-map : {A B : Type 0} (g : A → B) (o : Option A) → option_and_then (λ f. Some (g f)) o ≡ option_map g o
+then-map g None = refl
+then-map g (Some x) = refl
+
+embed-words : (frame url : Word) (more : List Word) (n h : Bool) → is_keyword (codes "none") url ≡ n → are_headers more ≡ h
+    → (if is_child (frame ∷ url ∷ more) then read_embed (frame ∷ url ∷ more) else None) ≡ embed_said (frame ∷ url ∷ more)
+embed-words frame url more true h n e = rw n refl
+embed-words frame url more false false n e = rw (n, e, headers-none more e) refl
+embed-words frame url more false true n e = rw (n, e, headers-some more e, options-are more e) (by_header (header_of None more))
   where
-    by_quotes : (q : Bool) → unwrap_or (option_map (λ text. bytes_eq text k) (if q then None else Some w.text)) false ≡ true → (if q then None else Some w.text) ≡ Some k
-    by_quotes true e = cc
-    by_quotes false e = ap Some (bytes-same w.text k e)
+    by_header : (h : Option (List ℕ)) → option_and_then (λ f. embedding f (Some url.text) (header_alone h None)) (frame_word frame) ≡ option_map (λ f. child_event f url.text h) (frame_word frame)
+    by_header None = then-map (λ f. child_event f url.text None) (frame_word frame)
+    by_header (Some h) = then-map (λ f. child_event f url.text (Some h)) (frame_word frame)
+
+embedded : (more : List Word) → (if is_child more then read_embed more else None) ≡ embed_said more
+embedded [] = refl
+embedded (frame ∷ []) = refl
+embedded (frame ∷ url ∷ more) = embed-words frame url more _ _ refl refl
+
+-- ---- the reading of words
+
+-- an event at time 0
+abbrev pub timed : Event → Timed
+timed e = record { time = 0; event = e }
+
+abbrev pub reading_of_list : List Word → Reading
+reading_of_list ws = as_built (Some ws) (unwrap_or (option_map Says (timed_of ws)) (Refusal cause.Syntax))
 
 -- words of another form
 not-built : (ws : List Word) (o : Option Timed) → is_built ws ≡ false → as_built (Some ws) (unwrap_or (option_map Says o) (Refusal cause.Syntax)) ≡ Refusal cause.Syntax
 not-built ws None e = refl
 not-built ws (Some t) e = rw e refl
 
-built : (ws : List Word) (o : Option Timed) → is_built ws ≡ true → as_built (Some ws) (unwrap_or (option_map Says o) (Refusal cause.Syntax)) ≡ unwrap_or (option_map Says o) (Refusal cause.Syntax)
+built : (ws : List Word) (o : Option Event) → is_built ws ≡ true → as_built (Some ws) (unwrap_or (option_map Says (option_map timed o)) (Refusal cause.Syntax)) ≡ reading_said o
 built ws None e = refl
-built ws (Some t) e = rw e refl
+built ws (Some x) e = rw e refl
 
-timed-open : (time verb url : Word) → is_keyword (codes "0") time ≡ true → is_keyword (codes "open") verb ≡ true → timed_of (time ∷ verb ∷ url ∷ []) ≡ Some (record { time = 0; event = event.OpenPage url.text None })
-unfolding timed_of time_of event_of headers options
-timed-open time verb url t v = rw (keyword-bare (codes "0") time t, keyword-bare (codes "open") verb v) refl
+reading-by : (ws : List Word) (b : Bool) (o : Option Event) → is_built ws ≡ b → timed_of ws ≡ option_map timed o → reading_of_list ws ≡ reading_said (if b then o else None)
+reading-by ws true o e t = rw t (built ws o e)
+reading-by ws false o e t = not-built ws (timed_of ws) e
 
-then-map : {A B : Type 0} (g : A → B) (o : Option A) → option_and_then (λ f. Some (g f)) o ≡ option_map g o
-then-map g None = refl
-then-map g (Some x) = refl
+timed-at-zero : (time verb : Word) (more : List Word) → is_keyword (codes "0") time ≡ true → timed_of (time ∷ verb ∷ more) ≡ option_map timed (event_of (verb ∷ more))
+unfolding timed_of time_of
+timed-at-zero time verb more t = rw (keyword-bare (codes "0") time t) refl
 
-timed-embed : (time verb frame url : Word) → is_keyword (codes "0") time ≡ true → is_keyword (codes "embed") verb ≡ true → is_keyword (codes "none") url ≡ false
-    → timed_of (time ∷ verb ∷ frame ∷ url ∷ []) ≡ option_map (λ e. record { time = 0; event = e }) (embed_said frame url)
-unfolding timed_of time_of event_of options
-timed-embed time verb frame url t v n = rw (keyword-bare (codes "0") time t, keyword-bare (codes "embed") verb v, n)
-    (ap (option_map (λ e. record { time = 0; event = e })) (then-map (λ f. event.Embed f (Some url.text) None None None false false None) (frame_word frame)))
+event-open : (verb : Word) (more : List Word) → is_keyword (codes "open") verb ≡ true → event_of (verb ∷ more) ≡ read_open more
+unfolding event_of
+event-open verb more v = rw (keyword-bare (codes "open") verb v) refl
 
-default-bare : (w : Word) (d : DefaultList) → default_word w ≡ Some d → bare w ≡ Some w.text
-default-bare w d h = by_quotes w.quoted h
-  where
-    by_quotes : (q : Bool) → option_and_then default_of (option_and_then feature_named (if q then None else Some w.text)) ≡ Some d → (if q then None else Some w.text) ≡ Some w.text
-    by_quotes true e = cc
-    by_quotes false e = refl
+event-embed : (verb : Word) (more : List Word) → is_keyword (codes "embed") verb ≡ true → event_of (verb ∷ more) ≡ read_embed more
+unfolding event_of
+event-embed verb more v = rw (keyword-bare (codes "embed") verb v) refl
 
-timed-policy : (time verb frame name : Word) (d : DefaultList) → is_keyword (codes "0") time ≡ true → is_keyword (codes "policy") verb ≡ true → default_word name ≡ Some d
-    → timed_of (time ∷ verb ∷ frame ∷ name ∷ []) ≡ option_map (λ e. record { time = 0; event = e }) (option_map (λ f. event.PolicyOf f name.text) (frame_word frame))
-unfolding timed_of time_of event_of
-timed-policy time verb frame name d t v e = rw (keyword-bare (codes "0") time t, keyword-bare (codes "policy") verb v, default-bare name d e)
-    (ap (option_map (λ e. record { time = 0; event = e })) (then-map (λ f. event.PolicyOf f name.text) (frame_word frame)))
+event-policy : (verb : Word) (more : List Word) → is_keyword (codes "policy") verb ≡ true → event_of (verb ∷ more) ≡ read_with_name event.PolicyOf more
+unfolding event_of
+event-policy verb more v = rw (keyword-bare (codes "policy") verb v) refl
 
--- a word is not two keywords
-other-keyword : (verb : Word) → is_keyword (codes "embed") verb ≡ true → is_keyword (codes "policy") verb ≡ false
-other-keyword verb v = rw (keyword-bare (codes "embed") verb v) refl
+or-none : (b : Bool) → (b || false) ≡ b
+or-none true = refl
+or-none false = refl
 
--- a reading of an event at time 0
-said-of : (o : Option Event) → unwrap_or (option_map Says (option_map (λ e. record { time = 0; event = e }) o)) (Refusal cause.Syntax) ≡ reading_said o
-said-of None = refl
-said-of (Some e) = refl
+or-nothing : (b : Bool) → (b || false || false) ≡ b
+or-nothing true = refl
+or-nothing false = refl
 
--- ---- the reading of words
-
-abbrev pub reading_of_list : List Word → Reading
-reading_of_list ws = as_built (Some ws) (unwrap_or (option_map Says (timed_of ws)) (Refusal cause.Syntax))
-
-built-three : (time verb url : Word) → is_built (time ∷ verb ∷ url ∷ []) ≡ (is_keyword (codes "0") time && is_keyword (codes "open") verb && not (is_keyword (codes "none") url))
+built-open : (time verb : Word) (more : List Word) → is_keyword (codes "0") time ≡ true → is_keyword (codes "open") verb ≡ true → is_built (time ∷ verb ∷ more) ≡ is_page more
 unfolding is_built
-built-three time verb url = refl
+built-open time verb more t v = rw (t, keyword-bare (codes "open") verb v) (or-nothing (is_page more))
 
-all-three : (t v n : Bool) → (t && v && not n) ≡ true → (t ≡ true) × (v ≡ true) × (n ≡ false)
-all-three true true false e = (refl, refl, refl)
-all-three true true true e = cc
-all-three true false n e = cc
-all-three false v n e = cc
-
-three-words : (time verb url : Word) → reading_of_list (time ∷ verb ∷ url ∷ []) ≡ reading_said (open_said time verb url)
-three-words time verb url = by_form (is_keyword (codes "0") time && is_keyword (codes "open") verb && not (is_keyword (codes "none") url)) refl
-  where
-    by_form : (b : Bool) → (is_keyword (codes "0") time && is_keyword (codes "open") verb && not (is_keyword (codes "none") url)) ≡ b
-        → reading_of_list (time ∷ verb ∷ url ∷ []) ≡ reading_said (if b then Some (event.OpenPage url.text None) else None)
-    by_form true e =
-        let (t, v, n) = all-three (is_keyword (codes "0") time) (is_keyword (codes "open") verb) (is_keyword (codes "none") url) e in
-        built (time ∷ verb ∷ url ∷ []) (timed_of (time ∷ verb ∷ url ∷ [])) (built-three time verb url ∙ e)
-        ∙ ap (λ o. unwrap_or (option_map Says o) (Refusal cause.Syntax)) (timed-open time verb url t v)
-    by_form false e = not-built (time ∷ verb ∷ url ∷ []) (timed_of (time ∷ verb ∷ url ∷ [])) (built-three time verb url ∙ e)
-
-built-four : (time verb frame last : Word) (t e p n : Bool) (d : Option DefaultList)
-    → is_keyword (codes "0") time ≡ t → is_keyword (codes "embed") verb ≡ e → is_keyword (codes "policy") verb ≡ p → is_keyword (codes "none") last ≡ n → default_word last ≡ d
-    → is_built (time ∷ verb ∷ frame ∷ last ∷ []) ≡ (t && (e && not n || p && is_some d))
+built-embed : (time verb : Word) (more : List Word) → is_keyword (codes "0") time ≡ true → is_keyword (codes "embed") verb ≡ true → is_built (time ∷ verb ∷ more) ≡ is_child more
 unfolding is_built
-built-four time verb frame last t e p n d et ee ep en ed = rw (et, ee, ep, en, ed) refl
+built-embed time verb more t v = rw (t, keyword-bare (codes "embed") verb v) (or-none (is_child more))
 
--- the event behind the time, by the tests of its words
-abbrev pub four_said : Word → Word → Bool → Bool → Bool → Bool → Option DefaultList → Option Event
-four_said frame last t e p n d =
-    if t then (if e then (if n then None else option_map (λ f. event.Embed f (Some last.text) None None None false false None) (frame_word frame))
-    else (if p then option_and_then (λ d. option_map (λ f. event.PolicyOf f last.text) (frame_word frame)) d else None)) else None
+built-policy : (time verb : Word) (more : List Word) → is_keyword (codes "0") time ≡ true → is_keyword (codes "policy") verb ≡ true → is_built (time ∷ verb ∷ more) ≡ true
+unfolding is_built
+built-policy time verb more t v = rw (t, keyword-bare (codes "policy") verb v) refl
 
-four-cases : (time verb frame last : Word) (t e p n : Bool) (d : Option DefaultList)
-    → is_keyword (codes "0") time ≡ t → is_keyword (codes "embed") verb ≡ e → is_keyword (codes "policy") verb ≡ p → is_keyword (codes "none") last ≡ n → default_word last ≡ d
-    → reading_of_list (time ∷ verb ∷ frame ∷ last ∷ []) ≡ reading_said (four_said frame last t e p n d)
-four-cases time verb frame last false e p n d et ee ep en ed =
-    not-built (time ∷ verb ∷ frame ∷ last ∷ []) (timed_of (time ∷ verb ∷ frame ∷ last ∷ [])) (built-four time verb frame last false e p n d et ee ep en ed)
-four-cases time verb frame last true true p false d et ee ep en ed =
-    built (time ∷ verb ∷ frame ∷ last ∷ []) (timed_of (time ∷ verb ∷ frame ∷ last ∷ [])) (built-four time verb frame last true true p false d et ee ep en ed)
-    ∙ ap (λ o. unwrap_or (option_map Says o) (Refusal cause.Syntax)) (timed-embed time verb frame last et ee en)
-    ∙ said-of (embed_said frame last) ∙ rw en refl
-four-cases time verb frame last true true true true d et ee ep en ed = let other = other-keyword verb ee in cc
-four-cases time verb frame last true true false true d et ee ep en ed =
-    not-built (time ∷ verb ∷ frame ∷ last ∷ []) (timed_of (time ∷ verb ∷ frame ∷ last ∷ [])) (built-four time verb frame last true true false true d et ee ep en ed)
-four-cases time verb frame last true false false n d et ee ep en ed =
-    not-built (time ∷ verb ∷ frame ∷ last ∷ []) (timed_of (time ∷ verb ∷ frame ∷ last ∷ [])) (built-four time verb frame last true false false n d et ee ep en ed)
-four-cases time verb frame last true false true n None et ee ep en ed =
-    not-built (time ∷ verb ∷ frame ∷ last ∷ []) (timed_of (time ∷ verb ∷ frame ∷ last ∷ [])) (built-four time verb frame last true false true n None et ee ep en ed)
-four-cases time verb frame last true false true n (Some d) et ee ep en ed =
-    built (time ∷ verb ∷ frame ∷ last ∷ []) (timed_of (time ∷ verb ∷ frame ∷ last ∷ [])) (built-four time verb frame last true false true n (Some d) et ee ep en ed)
-    ∙ ap (λ o. unwrap_or (option_map Says o) (Refusal cause.Syntax)) (timed-policy time verb frame last d et ep ed)
-    ∙ said-of (option_map (λ f. event.PolicyOf f last.text) (frame_word frame))
+built-other : (time verb : Word) (more : List Word) → is_keyword (codes "open") verb ≡ false → is_keyword (codes "embed") verb ≡ false → is_keyword (codes "policy") verb ≡ false
+    → is_built (time ∷ verb ∷ more) ≡ false
+unfolding is_built
+built-other time verb more o e p = rw (o, e, p) (neither (is_keyword (codes "0") time))
+  where
+    neither : (b : Bool) → (b && false) ≡ false
+    neither true = refl
+    neither false = refl
 
-four-words : (time verb frame last : Word) → reading_of_list (time ∷ verb ∷ frame ∷ last ∷ []) ≡ reading_said (event_built (time ∷ verb ∷ frame ∷ last ∷ []))
-four-words time verb frame last = four-cases time verb frame last _ _ _ _ _ refl refl refl refl refl
+built-later : (time verb : Word) (more : List Word) → is_keyword (codes "0") time ≡ false → is_built (time ∷ verb ∷ more) ≡ false
+unfolding is_built
+built-later time verb more t = rw t refl
 
-other-words : (ws : List Word) → is_built ws ≡ false → event_built ws ≡ None → reading_of_list ws ≡ reading_said (event_built ws)
-other-words ws e none = not-built ws (timed_of ws) e ∙ ap reading_said (sym none)
+by-verb : (time verb : Word) (more : List Word) (o e p : Bool) → is_keyword (codes "0") time ≡ true → is_keyword (codes "open") verb ≡ o → is_keyword (codes "embed") verb ≡ e → is_keyword (codes "policy") verb ≡ p
+    → reading_of_list (time ∷ verb ∷ more) ≡ reading_said (event_by_verb verb more)
+by-verb time verb more true e p t is_open is_embed is_policy =
+    reading-by (time ∷ verb ∷ more) (is_page more) (read_open more) (built-open time verb more t is_open) (timed-at-zero time verb more t ∙ ap (option_map timed) (event-open verb more is_open))
+    ∙ ap reading_said (opened more) ∙ rw is_open refl
+by-verb time verb more false true p t is_open is_embed is_policy =
+    reading-by (time ∷ verb ∷ more) (is_child more) (read_embed more) (built-embed time verb more t is_embed) (timed-at-zero time verb more t ∙ ap (option_map timed) (event-embed verb more is_embed))
+    ∙ ap reading_said (embedded more) ∙ rw (is_open, is_embed) refl
+by-verb time verb more false false true t is_open is_embed is_policy =
+    reading-by (time ∷ verb ∷ more) true (read_with_name event.PolicyOf more) (built-policy time verb more t is_policy) (timed-at-zero time verb more t ∙ ap (option_map timed) (event-policy verb more is_policy))
+    ∙ rw (is_open, is_embed, is_policy) refl
+by-verb time verb more false false false t is_open is_embed is_policy =
+    not-built (time ∷ verb ∷ more) (timed_of (time ∷ verb ∷ more)) (built-other time verb more is_open is_embed is_policy) ∙ rw (is_open, is_embed, is_policy) refl
+
+by-time : (time verb : Word) (more : List Word) (t : Bool) → is_keyword (codes "0") time ≡ t → reading_of_list (time ∷ verb ∷ more) ≡ reading_said (event_built (time ∷ verb ∷ more))
+by-time time verb more true t = by-verb time verb more _ _ _ t refl refl refl ∙ rw t refl
+by-time time verb more false t = not-built (time ∷ verb ∷ more) (timed_of (time ∷ verb ∷ more)) (built-later time verb more t) ∙ rw t refl
 
 words-reading : (ws : List Word) → reading_of_list ws ≡ reading_said (event_built ws)
 unfolding is_built
-words-reading [] = other-words [] refl refl
-words-reading (a ∷ []) = other-words (a ∷ []) refl refl
-words-reading (a ∷ b ∷ []) = other-words (a ∷ b ∷ []) refl refl
-words-reading (a ∷ b ∷ c ∷ []) = three-words a b c
-words-reading (a ∷ b ∷ c ∷ d ∷ []) = four-words a b c d
-words-reading (a ∷ b ∷ c ∷ d ∷ e ∷ ws) = other-words (a ∷ b ∷ c ∷ d ∷ e ∷ ws) refl refl
+words-reading [] = not-built [] (timed_of []) refl
+words-reading (time ∷ []) = not-built (time ∷ []) (timed_of (time ∷ [])) refl
+words-reading (time ∷ verb ∷ more) = by-time time verb more _ refl
 
 -- ---- the reading of a line
 

@@ -1,12 +1,10 @@
 -- What is kept of the accepted events, so that later lines can be judged.
 -- This project's own.
 -- Each frame of these histories is live and has the one document that was made with it, which has the frame's number.
-use Rattle.std.specs.Prelude.{◌≡◌, ℕ, zero, suc, ◌+◌, ◌≤◌, true, false, not, List, [], ◌∷◌, ◌++◌, length, get_or, Option, Some, None, option_to_list}
-use Rattle.std.specs.Option.{option_or}
-use Rattle.pe_features.specs.declared.feature.Feature.{Feature}
-use Rattle.pe_origin.specs.Origins.{is_same_origin}
-use Rattle.pe_policy.specs.Links.{Link}
-use Rattle.pe_rules.specs.History.{Told, when, each, clock}
+use Rattle.std.specs.Prelude.{◌≡◌, ℕ, zero, suc, ◌+◌, ◌≤◌, true, false, List, [], ◌∷◌, length, get_or, Option, Some, None, option_to_list}
+use Rattle.pe_policy.specs.Failing.{Rows, StandsFor}
+use Rattle.pe_policy.specs.Links.{Link, last_link}
+use Rattle.pe_rules.specs.History.{Told, each, clock}
 use Rattle.pe_rules.specs.Numbering.{is_frame, last_document}
 use Rattle.pe_rules.specs.Embedders.{chain, page}
 use Rattle.pe_rules.specs.Current.{is_current}
@@ -14,24 +12,16 @@ use Rattle.pe_rules.specs.Origins.{origin_of, sandbox_flag}
 use Rattle.pe_rules.specs.Denials.{link, links}
 use Rattle.pe_rules.specs.Statuses.{Status, status_by}
 use Rattle.pe_rules.specs.Causes.{live_pages, live_frames}
-use Rattle.pe_session.specs.declared.events.Frame.{Frame}
+use Rattle.pe_session.specs.declared.frame.Frame.{Frame}
 use Rattle.pe_session.specs.declared.events.Events.{Events}
 
--- a document with neither a declared policy nor a container policy
-pub record IsPlain (x : Link) : Type 0 where
-  pub declared : (f : Feature) → x.declared f ≡ None
-  pub container : (f : Feature) → x.container f ≡ None
-
--- the links are plain ones
-abbrev pub ArePlain : List Link → Type 0
-ArePlain [] = Unit {0}
-ArePlain (x ∷ xs) = IsPlain x × ArePlain xs
-
--- the first document, nearest the top, that is not same origin with its embedder
-abbrev pub first_crossing : List Link → Option ℕ
-first_crossing [] = None
-first_crossing (x ∷ []) = None
-first_crossing (p ∷ c ∷ rest) = let later = first_crossing (c ∷ rest) in option_or (when (not (is_same_origin c.origin p.origin)) c.document) later
+-- the policy is that of the document, which stands last on its chain
+pub record HasPolicy (T : Told) (k : ℕ) (policy : Rows) : Type 0 where
+  pub top : Link
+  pub rest : List Link
+  pub above : links T k ≡ top ∷ rest
+  pub last : last_link top rest ≡ link T k
+  pub stands : StandsFor policy top rest
 
 -- what is kept of the frame of this number
 pub record IsKept (T : Told) (k : ℕ) (frame : Frame) : Type 0 where
@@ -44,9 +34,7 @@ pub record IsKept (T : Told) (k : ℕ) (frame : Frame) : Type 0 where
   pub shallow : frame.depth ≤ 64
   pub origin : origin_of T k ≡ frame.origin
   pub flag : sandbox_flag T k ≡ false
-  pub above : (before : List Link) × (links T k ≡ before ++ link T k ∷ [])
-  pub plain : ArePlain (links T k)
-  pub crossing : first_crossing (links T k) ≡ frame.crossing
+  pub policy : HasPolicy T k frame.policy
 
 -- what is kept of a position: a frame, or that it makes none
 abbrev pub IsKeptAt : Told → ℕ → Option Frame → Type 0
@@ -77,4 +65,4 @@ pub record AreKept (frames : List (Option Frame)) (sizes : List ℕ) (pages : �
 
 -- what is kept of the steps
 abbrev pub Keeps : Events → Told → Type 0
-Keeps events T = AreKept events.frames.items events.sizes.items events.pages T
+Keeps events T = AreKept events.frames events.sizes.items events.pages T

@@ -1,4 +1,7 @@
+pub mod Headers
 pub mod Saying
+pub mod Framing
+pub mod Unboxed
 pub mod Keeping
 pub mod Replying
 pub mod Judging

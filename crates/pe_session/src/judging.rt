@@ -1,5 +1,6 @@
 //! Judges lines.
 ghost use Rattle.std.specs.Prelude.{◌≡◌, ℕ, IfOk, Some, false};
+ghost use Rattle.std.specs.Option.{option_copied};
 ghost use Rattle.pe_lines.specs.Cutting.{told};
 ghost use Rattle.pe_rules.specs.History.{History, Told};
 ghost use Rattle.pe_output.specs.Built.{reading_built};
@@ -12,7 +13,7 @@ use crate::events::Events;
 use crate::reading::{Said, is_silent, read_words};
 use crate::reply::{Reply, put_reply};
 use pe_events::Cause;
-use pe_lines::{Cut, Word, WordFault, words};
+use pe_lines::{Cut, Text, Word, WordFault, words};
 use std::alloc::AllocError;
 
 /// Judges the line of this number, puts its text behind the others, and answers whether it is refused.
@@ -62,17 +63,32 @@ fn answer(events: &mut Events, line: &[u8]) -> Result<Reply, AllocError>
     }
 }
 
+/// The bytes of a header, where there is one.
+fn header_bytes<'a>(header: &'a Option<Text<'_>>) -> Option<&'a [u8]>
+    ensures { option_copied result ≡ header.now }
+{
+    match header {
+        Some(text) => Some(text.as_slice()),
+        None => None,
+    }
+}
+
 /// What the words of a line are answered.
 fn answer_words(events: &mut Events, words: &[Word<'_>]) -> Result<Reply, AllocError>
     ensures { (duration : ℕ) (T : Told) → Keeps events.old T
         → IfOk result (AnswersWords duration T (event_built words.now) events.new) }
 {
-    match read_words(words) {
-        Some(Said::Open { url }) => events.open(url),
-        Some(Said::Embed { parent, url }) => events.embed(parent, url),
-        Some(Said::Policy { frame, default, .. }) => events.policy(frame, default),
-        None => Ok(Reply::Refused {
+    match read_words(events.alloc, words) {
+        Ok(Some(Said::Open { url, header })) => events.open(url, header_bytes(&header)),
+        Ok(Some(Said::Embed {
+            parent,
+            url,
+            header,
+        })) => events.embed(parent, url, header_bytes(&header)),
+        Ok(Some(Said::Policy { frame, name })) => events.policy(frame, name),
+        Ok(None) => Ok(Reply::Refused {
             cause: Cause::Syntax,
         }),
+        Err(AllocError) => Err(AllocError),
     }
 }

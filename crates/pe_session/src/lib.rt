@@ -2,6 +2,8 @@
 #![tactic(auto)]
 
 mod events;
+mod frame;
+mod headers;
 mod judging;
 mod numerals;
 mod reading;
@@ -10,6 +12,7 @@ mod run;
 mod serving;
 mod session;
 mod status;
+mod table;
 
 pub use run::run_within;
 pub use serving::serve;

@@ -1,39 +1,41 @@
 //! What the words of a line say, in the forms that are built.
-ghost use Rattle.std.specs.Prelude.{◌≡◌, ◌≤◌, List, Some, IfSome, option_map, codes};
-ghost use Rattle.pe_features.specs.Features.{feature_named, default_of};
+ghost use Rattle.std.specs.Prelude.{◌≡◌, ◌≤◌, List, Some, IfOk, option_map, codes};
 ghost use Rattle.pe_lines.specs.Words.{is_blank};
 ghost use Rattle.pe_script.specs.Names.{is_keyword};
-ghost use Rattle.pe_script.specs.Verbs.{frame_word};
+ghost use Rattle.pe_events.specs.declared.event.Event.TheVariants as event;
+ghost use Rattle.pe_script.specs.Verbs.{frame_word, read_with_name};
 ghost use Rattle.pe_session.specs.Saying.{
   is_silent,
+  is_place,
   event_said,
-  event_on_frame,
+  open_said,
+  embed_said,
   event_built,
-  HasFeature,
-  default_word,
 };
 
+use crate::headers::{are_headers, read_headers};
 use crate::numerals::positive;
-use pe_features::{DefaultList, Feature};
-use pe_lines::Word;
+use pe_lines::{Text, Word};
+use std::alloc::{AllocError, Global};
 
 /// What the words of a line say, at time 0.
-#[derive(Clone, Copy)]
+#[derive(Drop)]
 pub enum Said<'a> {
-    /// `open URL`.
+    /// `open URL`, with the header that the words behind it give.
     Open {
         url: &'a [u8],
+        header: Option<Text<'a>>,
     },
-    /// `embed F URL`.
+    /// `embed F URL`, with the header that the words behind it give.
     Embed {
         parent: u32,
         url: &'a [u8],
+        header: Option<Text<'a>>,
     },
-    /// `policy F FEATURE`, of a feature with this default allowlist.
+    /// `policy F NAME`.
     Policy {
         frame: u32,
         name: &'a [u8],
-        default: DefaultList,
     },
 }
 
@@ -57,7 +59,7 @@ pub fn is_silent(line: &[u8]) -> bool
 }
 
 /// Whether the word is bare and this keyword.
-fn is_keyword(word: &Word<'_>, keyword: &[u8]) -> bool
+pub fn is_keyword(word: &Word<'_>, keyword: &[u8]) -> bool
     ensures { result ≡ is_keyword keyword.now word.now }
 {
     if word.quoted {
@@ -85,62 +87,89 @@ fn frame_word(word: &Word<'_>) -> Option<u32>
     }
 }
 
-/// The default allowlist of the policy-controlled feature that the word names.
-fn default_word(word: &Word<'_>) -> Option<DefaultList>
-    ensures { result ≡ default_word word.now }
+/// Whether the word may be a URL, which the bare `none` is not, and headers alone stand behind it.
+fn is_place(url: &Word<'_>, more: &[Word<'_>]) -> bool
+    ensures { result ≡ is_place url.now more.now }
 {
-    if word.quoted {
-        return None;
+    if is_keyword(url, b"none") {
+        return false;
     }
-    Feature::by_name(word.text.as_slice())?.default_of()
+    are_headers(more)
 }
 
-/// What is said behind the time, by a verb and two words.
-fn read_on_frame<'a>(verb: &Word<'_>, frame: &Word<'_>, last: &'a Word<'_>) -> Option<Said<'a>>
-    ensures said { option_map event_said result ≡ event_on_frame verb.now frame.now last.now }
-    ensures feature { IfSome result HasFeature }
+/// What is said behind `open`.
+fn read_open<'a>(alloc: Global, words: &'a [Word<'_>]) -> Result<Option<Said<'a>>, AllocError>
+    ensures { IfOk result (λ said. option_map event_said said ≡ open_said words.now) }
 {
-    if is_keyword(verb, b"embed") {
-        if is_keyword(last, b"none") {
-            return None;
-        }
-        return Some(Said::Embed {
-            parent: frame_word(frame)?,
-            url: last.text.as_slice(),
-        });
+    let [url, more @ ..] = words else {
+        return Ok(None);
+    };
+    if !is_place(url, more) {
+        return Ok(None);
     }
-    if !is_keyword(verb, b"policy") {
+    let header = read_headers(alloc, more)?;
+    Ok(Some(Said::Open {
+        url: url.text.as_slice(),
+        header,
+    }))
+}
+
+/// What is said behind `embed`.
+fn read_embed<'a>(alloc: Global, words: &'a [Word<'_>]) -> Result<Option<Said<'a>>, AllocError>
+    ensures { IfOk result (λ said. option_map event_said said ≡ embed_said words.now) }
+{
+    let [frame, url, more @ ..] = words else {
+        return Ok(None);
+    };
+    if !is_place(url, more) {
+        return Ok(None);
+    }
+    let Some(parent) = frame_word(frame) else {
+        return Ok(None);
+    };
+    let header = read_headers(alloc, more)?;
+    Ok(Some(Said::Embed {
+        parent,
+        url: url.text.as_slice(),
+        header,
+    }))
+}
+
+/// What is said behind `policy`.
+fn read_policy<'a>(words: &'a [Word<'_>]) -> Option<Said<'a>>
+    ensures { option_map event_said result ≡ read_with_name event.PolicyOf words.now }
+{
+    let [frame, name] = words else {
+        return None;
+    };
+    if name.quoted {
         return None;
     }
-    let default = default_word(last)?;
     Some(Said::Policy {
         frame: frame_word(frame)?,
-        name: last.text.as_slice(),
-        default,
+        name: name.text.as_slice(),
     })
 }
 
-/// What the words say; None where they have no form that is built.
-
-pub fn read_words<'a>(words: &'a [Word<'_>]) -> Option<Said<'a>>
-    ensures said { option_map event_said result ≡ event_built words.now }
-    ensures feature { IfSome result HasFeature }
+/// What the words say; None where they have no form that is built. `AllocError` where memory wants,
+/// which only several headers take.
+pub fn read_words<'a>(alloc: Global, words: &'a [Word<'_>]) -> Result<Option<Said<'a>>, AllocError>
+    ensures { IfOk result (λ said. option_map event_said said ≡ event_built words.now) }
 {
-    match words {
-        [time, verb, url] => {
-            if !is_keyword(time, b"0") || !is_keyword(verb, b"open") || is_keyword(url, b"none") {
-                return None;
-            }
-            Some(Said::Open {
-                url: url.text.as_slice(),
-            })
-        }
-        [time, verb, frame, last] => {
-            if !is_keyword(time, b"0") {
-                return None;
-            }
-            read_on_frame(verb, frame, last)
-        }
-        _ => None,
+    let [time, verb, more @ ..] = words else {
+        return Ok(None);
+    };
+    if !is_keyword(time, b"0") {
+        return Ok(None);
     }
+    if is_keyword(verb, b"open") {
+        return read_open(alloc, more);
+    }
+    if is_keyword(verb, b"embed") {
+        return read_embed(alloc, more);
+    }
+    if is_keyword(verb, b"policy") {
+        return Ok(read_policy(more));
+    }
+    Ok(None)
 }

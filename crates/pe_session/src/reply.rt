@@ -1,8 +1,9 @@
 //! What a line is answered.
 ghost use Rattle.std.specs.Prelude.{◌≡◌, ◌++◌, OnOk};
-ghost use Rattle.pe_events.specs.Texts.{cause_text, answer_words, answer_text};
-ghost use Rattle.pe_session.specs.Replying.{told_reply, is_refusal};
+ghost use Rattle.pe_events.specs.Texts.{rule_text, cause_text, answer_words, answer_text};
+ghost use Rattle.pe_session.specs.Replying.{told_reply, policy_reply, is_refusal};
 
+use pe_base::{Denial, LinkRule};
 use pe_events::Cause;
 use pe_origin::{Origin, origin_text};
 use std::alloc::{AllocError, Global};
@@ -14,10 +15,23 @@ pub enum Reply {
     FrameMade { number: u32, origin: Origin },
     /// It is allowed.
     Allowed,
-    /// It is denied by the feature's default allowlist, at this document.
-    Denied { at: u32 },
+    /// It is denied by a test of the policy.
+    Denied { denial: Denial },
     /// The line is refused.
     Refused { cause: Cause },
+}
+
+/// A test of the policy, as it is written.
+fn rule_name(rule: LinkRule) -> &'static str
+    ensures { result.now ≡ rule_text rule }
+{
+    match rule {
+        LinkRule::EmbedderSelf => "embedder-self",
+        LinkRule::EmbedderHeader => "embedder-header",
+        LinkRule::Allow => "allow",
+        LinkRule::Default => "default",
+        LinkRule::OwnHeader => "own-header",
+    }
 }
 
 /// Why a line is refused, as it is written.
@@ -49,6 +63,16 @@ fn cause_name(cause: Cause) -> &'static str
 }
 
 impl Reply {
+    /// The reply to a question on the policy, by what denies the feature.
+    pub fn of_policy(denial: Option<Denial>) -> Reply
+        ensures { result ≡ policy_reply denial }
+    {
+        match denial {
+            Some(denial) => Reply::Denied { denial },
+            None => Reply::Allowed,
+        }
+    }
+
     /// Whether the line is refused.
     pub fn is_refused(&self) -> bool
         ensures { result ≡ is_refusal self.now }
@@ -74,8 +98,10 @@ fn put_words(alloc: Global, reply: &Reply, out: &mut Vec<u8>) -> Result<(), Allo
             Ok(())
         }
         Reply::Allowed => out.extend_from_slice(b"allowed"),
-        Reply::Denied { at } => {
-            let denied = format!(in alloc; "denied default d{at}")?;
+        Reply::Denied { denial } => {
+            let rule = rule_name(denial.rule);
+            let at = denial.at.get();
+            let denied = format!(in alloc; "denied {rule} d{at}")?;
             out.extend_from_slice(denied.as_bytes())
         }
         Reply::Refused { cause } => {

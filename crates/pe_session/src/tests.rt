@@ -63,7 +63,7 @@ fn scripts(rt: HostRuntime) -> Result<(), Fail> {
              0 embed f3 https://a.example/\n0 policy f4 camera\n0 policy f4 picture-in-picture\n0 policy f4 push\n",
             "1 frame f1 doc d1 https://a.example\n2 frame f2 doc d2 https://b.example\n\
              3 frame f3 doc d3 https://b.example\n4 frame f4 doc d4 https://a.example\n5 denied default d2\n\
-             6 allowed\n7 refused syntax\n",
+             6 allowed\n7 refused feature\n",
             Status::Refusals,
         ),
         (
@@ -88,7 +88,7 @@ fn scripts(rt: HostRuntime) -> Result<(), Fail> {
             "1 open https://a.example/\n0 open none\n\"0\" open https://a.example/\n0 \"open\" https://a.example/\n\
              0 policy f01 camera\n0 policy f camera\n0 policy f0 camera\n0 policy f1 Camera\n0 policy f1 \"camera\"\n",
             "1 refused syntax\n2 refused syntax\n3 refused syntax\n4 refused syntax\n5 refused syntax\n\
-             6 refused syntax\n7 refused syntax\n8 refused syntax\n9 refused syntax\n",
+             6 refused syntax\n7 refused syntax\n8 refused unknown\n9 refused syntax\n",
             Status::Refusals,
         ),
         (
@@ -102,8 +102,8 @@ fn scripts(rt: HostRuntime) -> Result<(), Fail> {
             Status::Refusals,
         ),
         (
-            "0 open https://a.example/ header \"camera=()\"\n0 embed f1 https://b.example/ allow camera\n0 policy f1 fly\n",
-            "1 refused syntax\n2 refused syntax\n3 refused syntax\n",
+            "0 open https://a.example/\n0 embed f1 https://b.example/ allow camera\n0 policy f1 fly\n0 policy f9 push\n",
+            "1 frame f1 doc d1 https://a.example\n2 refused syntax\n3 refused feature\n4 refused unknown\n",
             Status::Refusals,
         ),
         (
@@ -131,6 +131,152 @@ fn scripts(rt: HostRuntime) -> Result<(), Fail> {
     for (script, text, wanted) in cases {
         let (status, sink) = run(&rt, &["run"], script.as_bytes())?;
         assert_eq!(rt; sink.as_slice(), text.as_bytes(), "text of {script:?}");
+        assert_eq!(rt; status, wanted, "status of {script:?}");
+    }
+    Ok(())
+}
+
+/// The scripts of this table begin with a page of `https://a.example/` that has the header, or none
+/// where it is empty; its line of output is left out.
+#[test]
+fn headers(rt: HostRuntime) -> Result<(), Fail> {
+    let cases: [(&str, &str, &str); 22] = [
+        (
+            r#"header "geolocation=*""#,
+            "0 embed f1 https://b.example/\n0 policy f2 geolocation\n",
+            "2 frame f2 doc d2 https://b.example\n3 denied default d2\n",
+        ),
+        (
+            r#"header "camera=(), camera=*""#,
+            "0 policy f1 camera\n",
+            "2 allowed\n",
+        ),
+        (
+            r#"header "camera=(),""#,
+            "0 policy f1 camera\n",
+            "2 allowed\n",
+        ),
+        (
+            r#"header "camera=()""#,
+            "0 policy f1 camera\n",
+            "2 denied own-header d1\n",
+        ),
+        (
+            "header camera=()",
+            "0 policy f1 camera\n",
+            "2 denied own-header d1\n",
+        ),
+        (
+            r#"header "geolocation=(self \"https://b.example\")""#,
+            "0 embed f1 https://b.example/\n0 policy f2 geolocation\n0 policy f1 geolocation\n",
+            "2 frame f2 doc d2 https://b.example\n3 denied default d2\n4 allowed\n",
+        ),
+        (
+            r#"header "storage-access=(self)""#,
+            "0 embed f1 https://b.example/\n0 policy f2 storage-access\n0 policy f1 push\n0 policy f1 fly\n",
+            "2 frame f2 doc d2 https://b.example\n3 denied embedder-header d1\n4 refused feature\n5 refused feature\n",
+        ),
+        // The header lists one child's origin, and not the other's.
+        (
+            r#"header "storage-access=(self \"https://b.example\")""#,
+            "0 embed f1 https://b.example/\n0 embed f1 https://c.example/\n0 policy f2 storage-access\n0 policy f3 storage-access\n",
+            "2 frame f2 doc d2 https://b.example\n3 frame f3 doc d3 https://c.example\n4 allowed\n5 denied embedder-header d1\n",
+        ),
+        // The page's own header denies it the feature, and so each of its children.
+        (
+            r#"header "camera=()""#,
+            "0 embed f1 https://a.example/\n0 embed f2 https://b.example/\n0 policy f2 camera\n0 policy f3 camera\n",
+            "2 frame f2 doc d2 https://a.example\n3 frame f3 doc d3 https://b.example\n4 denied embedder-self d1\n5 denied embedder-self d1\n",
+        ),
+        // The embedder's header comes before the default allowlist, and that before the child's header.
+        (
+            r#"header "camera=(self)""#,
+            "0 embed f1 https://b.example/ header camera=()\n0 policy f2 camera\n0 policy f2 midi\n",
+            "2 frame f2 doc d2 https://b.example\n3 denied embedder-header d1\n4 denied default d2\n",
+        ),
+        (
+            "",
+            "0 embed f1 https://b.example/ header camera=()\n0 policy f2 camera\n",
+            "2 frame f2 doc d2 https://b.example\n3 denied default d2\n",
+        ),
+        (
+            "",
+            "0 embed f1 https://a.example/ header \"camera=()\"\n0 embed f2 about:blank\n0 policy f1 camera\n\
+             0 policy f2 camera\n0 policy f3 camera\n",
+            "2 frame f2 doc d2 https://a.example\n3 frame f3 doc d3 https://a.example\n4 allowed\n\
+             5 denied own-header d2\n6 denied embedder-self d2\n",
+        ),
+        // `self` in a child's header is the child's own origin.
+        (
+            "",
+            "0 embed f1 data:text/html,x header \"storage-access=self\"\n0 embed f2 https://a.example/\n\
+             0 policy f2 storage-access\n0 policy f3 storage-access\n",
+            "2 frame f2 doc d2 opaque:d2\n3 frame f3 doc d3 https://a.example\n4 allowed\n5 denied embedder-header d2\n",
+        ),
+        // Several headers are one.
+        (
+            r#"header "camera=(self)" header "midi=()""#,
+            "0 policy f1 camera\n0 policy f1 midi\n",
+            "2 allowed\n3 denied own-header d1\n",
+        ),
+        (
+            r#"header "camera=()" header "camera=*""#,
+            "0 policy f1 camera\n",
+            "2 allowed\n",
+        ),
+        (
+            "header camera=* header midi=() header camera=()",
+            "0 policy f1 camera\n0 policy f1 midi\n",
+            "2 denied own-header d1\n3 denied own-header d1\n",
+        ),
+        (
+            r#"header "camera=()" header """#,
+            "0 policy f1 camera\n",
+            "2 allowed\n",
+        ),
+        (
+            r#"header """#,
+            "0 policy f1 camera\n",
+            "2 allowed\n",
+        ),
+        (
+            "header header header camera=()",
+            "0 policy f1 camera\n",
+            "2 denied own-header d1\n",
+        ),
+        // What is no dictionary is not refused.
+        (
+            r#"header "camera=(self""#,
+            "0 policy f1 camera\n",
+            "2 allowed\n",
+        ),
+        // Other options, and headers that are cut short or misspelled.
+        (
+            "",
+            "0 embed f1 https://b.example/ header camera=() srcdoc\n0 embed f1 https://b.example/ at https://c.example/ header camera=()\n\
+             0 embed f1 none header camera=()\n0 embed f1 none srcdoc\n0 embed f1 https://b.example/ sandbox \"\"\n\
+             0 embed f1 https://b.example/ fullscreen\n",
+            "2 refused syntax\n3 refused syntax\n4 refused syntax\n5 refused syntax\n6 refused syntax\n7 refused syntax\n",
+        ),
+        (
+            "",
+            "0 open https://b.example/ header\n0 open https://b.example/ header camera=() header\n0 open https://b.example/ \"header\" camera=()\n\
+             0 open https://b.example/ Header camera=()\n0 open https://b.example/ camera=() header\n0 open none header camera=()\n\
+             0 policy f1 camera header camera=()\n0 embed f1 header camera=()\n",
+            "2 refused syntax\n3 refused syntax\n4 refused syntax\n5 refused syntax\n6 refused syntax\n7 refused syntax\n\
+             8 refused syntax\n9 refused syntax\n",
+        ),
+    ];
+    for (header, more, text) in cases {
+        let script = format!(in rt.alloc(); "0 open https://a.example/ {header}\n{more}")?;
+        let whole = format!(in rt.alloc(); "{PAGE_TEXT}{text}")?;
+        let wanted = if text.contains("refused") {
+            Status::Refusals
+        } else {
+            Status::Clean
+        };
+        let (status, sink) = run(&rt, &["run"], script.as_bytes())?;
+        assert_eq!(rt; sink.as_slice(), whole.as_bytes(), "text of {script:?}");
         assert_eq!(rt; status, wanted, "status of {script:?}");
     }
     Ok(())

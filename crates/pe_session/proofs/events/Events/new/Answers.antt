@@ -6,7 +6,7 @@ use Rattle.pe_session.proofs.events.Events.new.Goals as goal
 
 pub returns : goal.returns
 unfolding clock each newest live_pages live_frames frames_made is_frame
-returns c = rw (c.new.ensures.items, c.new-2.ensures.items) record {
+returns c = rw (c.new.ensures, c.new-2.ensures.items) record {
   count = refl;
   few = omega arith;
   sized = refl;
