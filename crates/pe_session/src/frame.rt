@@ -116,14 +116,7 @@ impl Frame {
         let own = read_header(alloc, header, origin)?;
         let container = Container::empty(alloc);
         let number = DocNo::of(number);
-        Ok(Policy::make_child(
-            &self.policy,
-            &self.origin,
-            &container,
-            origin,
-            own,
-            number,
-        ))
+        Ok(Policy::make_child(&self.policy, &self.origin, &container, origin, own, number))
     }
 
     /// The frame that the event of this number embeds, at a place, in this one's document. `AllocError`

@@ -80,11 +80,15 @@ fn answer_words(events: &mut Events, words: &[Word<'_>]) -> Result<Reply, AllocE
 {
     match read_words(events.alloc, words) {
         Ok(Some(Said::Open { url, header })) => events.open(url, header_bytes(&header)),
-        Ok(Some(Said::Embed {
-            parent,
-            url,
-            header,
-        })) => events.embed(parent, url, header_bytes(&header)),
+        Ok(
+            Some(
+                Said::Embed {
+                    parent,
+                    url,
+                    header,
+                },
+            ),
+        ) => events.embed(parent, url, header_bytes(&header)),
         Ok(Some(Said::Policy { frame, name })) => events.policy(frame, name),
         Ok(None) => Ok(Reply::Refused {
             cause: Cause::Syntax,

@@ -234,11 +234,7 @@ fn headers(rt: HostRuntime) -> Result<(), Fail> {
             "0 policy f1 camera\n",
             "2 allowed\n",
         ),
-        (
-            r#"header """#,
-            "0 policy f1 camera\n",
-            "2 allowed\n",
-        ),
+        (r#"header """#, "0 policy f1 camera\n", "2 allowed\n"),
         (
             "header header header camera=()",
             "0 policy f1 camera\n",
