@@ -34,8 +34,8 @@ fn put_headers(header: &mut Vec<u8>, words: &[Word<'_>]) -> Result<(), AllocErro
     Ok(())
 }
 
-/// The header of such words, or none where there are none. It borrows the line where there is one
-/// text, and joins several.
+/// The header of such words, or none where there are none. One text is lent by its word, and several
+/// are joined. `AllocError` where memory wants, which only several take.
 pub fn read_headers<'a>(
     alloc: Global,
     words: &'a [Word<'_>],
