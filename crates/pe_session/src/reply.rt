@@ -1,8 +1,9 @@
 //! What a line is answered.
-ghost use Rattle.std.specs.Prelude.{◌≡◌, ◌++◌, OnOk};
+ghost use Rattle.std.specs.Prelude.{◌≡◌, ◌++◌, OnOk, decimal};
 ghost use Rattle.pe_events.specs.Texts.{rule_text, cause_text, answer_words, answer_text};
 ghost use Rattle.pe_session.specs.Replying.{told_reply, policy_reply, is_refusal};
 
+use itoa::Buffer;
 use pe_base::{Denial, LinkRule};
 use pe_events::Cause;
 use pe_origin::{Origin, origin_text};
@@ -84,6 +85,14 @@ impl Reply {
     }
 }
 
+/// Puts a number behind the text, in decimal.
+fn put_number(number: u64, out: &mut Vec<u8>) -> Result<(), AllocError>
+    ensures { OnOk result (out.new.items ≡ out.old.items ++ decimal number) }
+{
+    let mut digits = Buffer::new();
+    out.extend_from_slice(digits.format(number).as_bytes())
+}
+
 /// Puts the words of a reply behind the text.
 #[tactic(auto, unfolding(pe_events::specs::Texts::answer_words))]
 fn put_words(alloc: Global, reply: &Reply, out: &mut Vec<u8>) -> Result<(), AllocError>
@@ -91,18 +100,21 @@ fn put_words(alloc: Global, reply: &Reply, out: &mut Vec<u8>) -> Result<(), Allo
 {
     match reply {
         Reply::FrameMade { number, origin } => {
-            let made = format!(in alloc; "frame f{number} doc d{number} ")?;
-            out.extend_from_slice(made.as_bytes())?;
+            out.extend_from_slice(b"frame f")?;
+            put_number(u64::from(*number), out)?;
+            out.extend_from_slice(b" doc d")?;
+            put_number(u64::from(*number), out)?;
+            out.push(b' ')?;
             let origin = origin_text(alloc, origin)?;
             out.extend_from_slice(&origin)?;
             Ok(())
         }
         Reply::Allowed => out.extend_from_slice(b"allowed"),
         Reply::Denied { denial } => {
-            let rule = rule_name(denial.rule);
-            let at = denial.at.get();
-            let denied = format!(in alloc; "denied {rule} d{at}")?;
-            out.extend_from_slice(denied.as_bytes())
+            out.extend_from_slice(b"denied ")?;
+            out.extend_from_slice(rule_name(denial.rule).as_bytes())?;
+            out.extend_from_slice(b" d")?;
+            put_number(u64::from(denial.at.get()), out)
         }
         Reply::Refused { cause } => {
             out.extend_from_slice(b"refused ")?;
@@ -121,8 +133,8 @@ pub fn put_reply(
 ) -> Result<(), AllocError>
     ensures { OnOk result (out.new.items ≡ out.old.items ++ answer_text number (told_reply reply.now)) }
 {
-    let head = format!(in alloc; "{number} ")?;
-    out.extend_from_slice(head.as_bytes())?;
+    put_number(number, out)?;
+    out.push(b' ')?;
     put_words(alloc, reply, out)?;
     out.push(b'\n')?;
     Ok(())
