@@ -1,6 +1,13 @@
 pub mod Below
+pub mod Children
+pub mod Embedded
+pub mod Kin
+pub mod Linked
 pub mod Nodes
 pub mod Opened
 pub mod Pages
 pub mod Sizes
+pub mod Standings
+pub mod Topped
+pub mod Writes
 pub mod Written

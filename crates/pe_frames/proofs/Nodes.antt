@@ -109,6 +109,7 @@ module _ {D : Type 0} where
     nodes = tt;
     apart = tt;
     sized = λ h r e. absurd (unlive _ None refl (ap is_some (ap (option_map (λ x. x.node)) e)));
+    linked = λ h r e. absurd (unlive _ None refl (ap is_some (ap (option_map (λ x. x.node)) e)));
     shallow = λ h n e. absurd (unlive _ None refl (ap is_some e));
     paged = refl;
     few = omega arith;

@@ -1,5 +1,5 @@
 //! The rows of frames.
-ghost use Rattle.std.specs.Prelude.{◌≡◌, ◌+◌, ◌-◌, ◌<◌, ◌≤◌, ◌^◌, IsSome, IfSome, length, IfOk, OnErr, Some, None, if◌then◌else◌, is_none};
+ghost use Rattle.std.specs.Prelude.{◌≡◌, ◌↔◌, ◌+◌, ◌-◌, ◌<◌, ◌≤◌, ◌^◌, IsSome, IsTrue, IfSome, length, IfOk, OnErr, Some, None, if◌then◌else◌, is_none};
 ghost use Rattle.pe_arena.specs.Slots.{live, mark, holding, with_value, IsNext, Updates};
 ghost use Rattle.pe_frames.specs.Links.{Rewrites, at, with_first, with_last, with_earlier, with_later, linked};
 
@@ -194,6 +194,13 @@ pub(crate) fn set_later<D>(rows: &mut Arena<Row<D>>, h: Option<Handle>, later: O
     if let Some(h) = h {
         later_at(rows, h, later);
     }
+}
+
+// Whether this is the handle.
+pub(crate) fn names(named: Option<Handle>, h: Handle) -> bool
+    ensures { IsTrue result ↔ (named ≡ Some h) }
+{
+    named == Some(h)
 }
 
 // The handle, where there is no sibling.

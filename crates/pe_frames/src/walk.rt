@@ -1,10 +1,11 @@
 //! The walk over the tree.
 ghost use Rattle.std.specs.Prelude.{◌≡◌, ◌↔◌, ◌∷◌, Some, None, IsSome, IsSomeAnd, IsTrue, IfSome, IfOk, unwrap_or, false};
 ghost use Rattle.pe_frames.specs.Forest.{entry_of, is_under, last_of};
-ghost use Rattle.pe_frames.specs.Order.{after, next_child_of, handles_under};
+ghost use Rattle.pe_frames.specs.Order.{after, child_handles, next_child_of, handles_under};
 
 use crate::frames::Frames;
 use crate::node::Numbered;
+use crate::row::names;
 use pe_arena::Handle;
 use std::alloc::AllocError;
 
@@ -16,11 +17,21 @@ impl<D: Numbered> Frames<D> {
         ensures value { result ≡ next_child_of self.now.entries parent after }
         ensures stale { entry_of self.now.entries parent ≡ None → result ≡ None }
     {
-        let Some(child) = after else {
-            return self.standing(parent)?.links.first;
-        };
+        let _ = &self.order;
+        let here = self.standing(parent)?;
+        match after {
+            None => here.links.first,
+            Some(child) => self.child_behind(parent, child),
+        }
+    }
+
+    // The child of the parent behind this one.
+    fn child_behind(&self, parent: Handle, child: Handle) -> Option<Handle>
+        ensures { result ≡ after child (child_handles self.now.entries parent) }
+    {
+        let _ = &self.order;
         let here = self.standing(child)?;
-        if here.parent != Some(parent) {
+        if !names(here.parent, parent) {
             return None;
         }
         here.links.later
