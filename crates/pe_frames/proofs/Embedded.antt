@@ -20,6 +20,10 @@ use Rattle.pe_frames.proofs.Kin.{child-absent, childless}
 use Rattle.pe_frames.proofs.Linked.{linked-node, linked-size, grown, grown-node, grown-size, grown-links, links-new, links-old, last-is-child, last-kept}
 use Rattle.pe_frames.proofs.Opened.{Steps, Makes, Makes-steps, each-row, sized-below, IsForest-made, StayDead-made, entries-made}
 
+if_each : {A : Type 0} (P : A → Type 0) (o : Option A) → ((x : A) → o ≡ Some x → P x) → IfSome o P
+if_each P None f = tt
+if_each P (Some x) f = f x refl
+
 module _ {D : Type 0} where
   -- a row was taken in for a frame below a live one
   pub record Embeds (s mid : Slots (Row D)) (order : List Handle) (p : Handle) (place : Place) (h : Handle) (frame : ℕ) (doc : D) (row : Row D) : Type 0 where
@@ -36,10 +40,6 @@ module _ {D : Type 0} where
   some_row : (o : Option (Row D)) → IsSome (option_map (λ r. r.node) o) → IsSome o
   some_row None p = p
   some_row (Some r) p = refl
-
-  if_each : {A : Type 0} (P : A → Type 0) (o : Option A) → ((x : A) → o ≡ Some x → P x) → IfSome o P
-  if_each P None f = tt
-  if_each P (Some x) f = f x refl
 
   module _ (s mid : Slots (Row D)) (order : List Handle) (pages : ℕ) (is : IsForest s order pages) (p : Handle) (place : Place) (h : Handle) (frame : ℕ) (doc : D) (row : Row D) (embeds : Embeds s mid order p place h frame doc row) where
     counted : IsCounted s mid (entries_in (kept s order [])) h place.top

@@ -25,7 +25,7 @@ returns-then-not-names g c =
     let p = c.args.parent in
     let value = subst (λ (f : Forest _). c.standing.result ≡ option_map (standing_in f.entries k) (entry_of f.entries k)) (sym c.self.view_is) c.standing.ensures.value in
     let at = stands-at (entries_in xs) k c.standing.result c.in_ok-here.here c.in_ok-here.was value in
-    sym (child-other xs is.nodes is.apart p k at.entry at.found (λ q. true≢false (sym (c.names.ensures.1 (sym (ap (λ x. x.parent) at.is) ∙ q)) ∙ c.if-not-names.true))) ∙ ap (λ f. after k (child_handles f.entries p)) c.self.view_is
+    sym (child-other xs is.nodes is.apart p k at.entry at.found (λ q. true≢false (sym (c.names.ensures.1 (ap (λ x. x.parent) at.is ∙ q)) ∙ c.if-not-names.true))) ∙ ap (λ f. after k (child_handles f.entries p)) c.self.view_is
 
 pub returns : goal.returns
 returns g c =

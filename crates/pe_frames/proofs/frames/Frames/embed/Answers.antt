@@ -18,7 +18,7 @@ grow_page-requires-clause-live g c =
     let p = c.args.parent in
     let place = c.in_ok-place.place in
     let h = c.in-Ok.h in
-    let row : Row _ = record { node = c.below-node.result; size = 0; links = c.behind.result } in
+    let row : Row _ = record { node = c.below-node.result; size = 0; links = c.behind-links.result } in
     let embeds : Embeds s mid order p place h c.args.frame c.args.doc row = record {
       below = below-of (entries_in (kept s order [])) p place (subst (λ (f : Forest _). IsSomeAnd (entry_of f.entries p) (λ e. place ≡ record { top = top_of e; depth = depth_of e + 1; last = head_of (young f.entries p) })) (sym c.self.view_is) c.in_ok-place.ensures.place);
       room = subst (λ (f : Forest _). page_size f.entries place.top ≢ 256) (sym c.self.view_is) c.in_ok-place.ensures.room;
@@ -28,7 +28,7 @@ grow_page-requires-clause-live g c =
       slots = c.in-Ok.ensures.slots;
       taken = c.in-Ok.ensures.updates;
       node = c.below-node.ensures;
-      links = c.behind.ensures;
+      links = c.behind-links.ensures;
     } in
     top-live s mid order c.self.inside.pages c.self.invariant p place h c.args.frame c.args.doc row embeds
 
@@ -40,7 +40,7 @@ grow_page-requires-clause-room g c =
     let p = c.args.parent in
     let place = c.in_ok-place.place in
     let h = c.in-Ok.h in
-    let row : Row _ = record { node = c.below-node.result; size = 0; links = c.behind.result } in
+    let row : Row _ = record { node = c.below-node.result; size = 0; links = c.behind-links.result } in
     let embeds : Embeds s mid order p place h c.args.frame c.args.doc row = record {
       below = below-of (entries_in (kept s order [])) p place (subst (λ (f : Forest _). IsSomeAnd (entry_of f.entries p) (λ e. place ≡ record { top = top_of e; depth = depth_of e + 1; last = head_of (young f.entries p) })) (sym c.self.view_is) c.in_ok-place.ensures.place);
       room = subst (λ (f : Forest _). page_size f.entries place.top ≢ 256) (sym c.self.view_is) c.in_ok-place.ensures.room;
@@ -50,7 +50,7 @@ grow_page-requires-clause-room g c =
       slots = c.in-Ok.ensures.slots;
       taken = c.in-Ok.ensures.updates;
       node = c.below-node.ensures;
-      links = c.behind.ensures;
+      links = c.behind-links.ensures;
     } in
     top-room s mid order c.self.inside.pages c.self.invariant p place h c.args.frame c.args.doc row embeds
 
@@ -62,7 +62,7 @@ link-requires-clause-parent g c =
     let p = c.args.parent in
     let place = c.in_ok-place.place in
     let h = c.in-Ok.h in
-    let row : Row _ = record { node = c.below-node.result; size = 0; links = c.behind.result } in
+    let row : Row _ = record { node = c.below-node.result; size = 0; links = c.behind-links.result } in
     let embeds : Embeds s mid order p place h c.args.frame c.args.doc row = record {
       below = below-of (entries_in (kept s order [])) p place (subst (λ (f : Forest _). IsSomeAnd (entry_of f.entries p) (λ e. place ≡ record { top = top_of e; depth = depth_of e + 1; last = head_of (young f.entries p) })) (sym c.self.view_is) c.in_ok-place.ensures.place);
       room = subst (λ (f : Forest _). page_size f.entries place.top ≢ 256) (sym c.self.view_is) c.in_ok-place.ensures.room;
@@ -72,7 +72,7 @@ link-requires-clause-parent g c =
       slots = c.in-Ok.ensures.slots;
       taken = c.in-Ok.ensures.updates;
       node = c.below-node.ensures;
-      links = c.behind.ensures;
+      links = c.behind-links.ensures;
     } in
     parent-live s mid order c.self.inside.pages c.self.invariant p place h c.args.frame c.args.doc row embeds c.grow_page.new.rows c.grow_page.ensures
 
@@ -84,7 +84,7 @@ link-requires-clause-last g c =
     let p = c.args.parent in
     let place = c.in_ok-place.place in
     let h = c.in-Ok.h in
-    let row : Row _ = record { node = c.below-node.result; size = 0; links = c.behind.result } in
+    let row : Row _ = record { node = c.below-node.result; size = 0; links = c.behind-links.result } in
     let embeds : Embeds s mid order p place h c.args.frame c.args.doc row = record {
       below = below-of (entries_in (kept s order [])) p place (subst (λ (f : Forest _). IsSomeAnd (entry_of f.entries p) (λ e. place ≡ record { top = top_of e; depth = depth_of e + 1; last = head_of (young f.entries p) })) (sym c.self.view_is) c.in_ok-place.ensures.place);
       room = subst (λ (f : Forest _). page_size f.entries place.top ≢ 256) (sym c.self.view_is) c.in_ok-place.ensures.room;
@@ -94,7 +94,7 @@ link-requires-clause-last g c =
       slots = c.in-Ok.ensures.slots;
       taken = c.in-Ok.ensures.updates;
       node = c.below-node.ensures;
-      links = c.behind.ensures;
+      links = c.behind-links.ensures;
     } in
     last-live s mid order c.self.inside.pages c.self.invariant p place h c.args.frame c.args.doc row embeds c.grow_page.new.rows c.grow_page.ensures
 
@@ -106,7 +106,7 @@ invariant_of-self-2 g c =
     let p = c.args.parent in
     let place = c.in_ok-place.place in
     let h = c.in-Ok.h in
-    let row : Row _ = record { node = c.below-node.result; size = 0; links = c.behind.result } in
+    let row : Row _ = record { node = c.below-node.result; size = 0; links = c.behind-links.result } in
     let embeds : Embeds s mid order p place h c.args.frame c.args.doc row = record {
       below = below-of (entries_in (kept s order [])) p place (subst (λ (f : Forest _). IsSomeAnd (entry_of f.entries p) (λ e. place ≡ record { top = top_of e; depth = depth_of e + 1; last = head_of (young f.entries p) })) (sym c.self.view_is) c.in_ok-place.ensures.place);
       room = subst (λ (f : Forest _). page_size f.entries place.top ≢ 256) (sym c.self.view_is) c.in_ok-place.ensures.room;
@@ -116,7 +116,7 @@ invariant_of-self-2 g c =
       slots = c.in-Ok.ensures.slots;
       taken = c.in-Ok.ensures.updates;
       node = c.below-node.ensures;
-      links = c.behind.ensures;
+      links = c.behind-links.ensures;
     } in
     rw (c.push_reserved.ensures.items, c.reserve.ensures.items)
     (IsForest-below s mid order c.self.inside.pages c.self.invariant p place h c.args.frame c.args.doc row embeds c.grow_page.new.rows c.grow_page.ensures c.link.new.rows c.link.ensures)
@@ -129,7 +129,7 @@ returns-clause-entries g c =
     let p = c.args.parent in
     let place = c.in_ok-place.place in
     let h = c.in-Ok.h in
-    let row : Row _ = record { node = c.below-node.result; size = 0; links = c.behind.result } in
+    let row : Row _ = record { node = c.below-node.result; size = 0; links = c.behind-links.result } in
     let embeds : Embeds s mid order p place h c.args.frame c.args.doc row = record {
       below = below-of (entries_in (kept s order [])) p place (subst (λ (f : Forest _). IsSomeAnd (entry_of f.entries p) (λ e. place ≡ record { top = top_of e; depth = depth_of e + 1; last = head_of (young f.entries p) })) (sym c.self.view_is) c.in_ok-place.ensures.place);
       room = subst (λ (f : Forest _). page_size f.entries place.top ≢ 256) (sym c.self.view_is) c.in_ok-place.ensures.room;
@@ -139,7 +139,7 @@ returns-clause-entries g c =
       slots = c.in-Ok.ensures.slots;
       taken = c.in-Ok.ensures.updates;
       node = c.below-node.ensures;
-      links = c.behind.ensures;
+      links = c.behind-links.ensures;
     } in
     rw (c.push_reserved.ensures.items, c.reserve.ensures.items, ← c.self.view_is)
     (entries-below s mid order c.self.inside.pages c.self.invariant p place h c.args.frame c.args.doc row embeds c.grow_page.new.rows c.grow_page.ensures c.link.new.rows c.link.ensures)
@@ -152,7 +152,7 @@ returns-clause-made g c =
     let p = c.args.parent in
     let place = c.in_ok-place.place in
     let h = c.in-Ok.h in
-    let row : Row _ = record { node = c.below-node.result; size = 0; links = c.behind.result } in
+    let row : Row _ = record { node = c.below-node.result; size = 0; links = c.behind-links.result } in
     let embeds : Embeds s mid order p place h c.args.frame c.args.doc row = record {
       below = below-of (entries_in (kept s order [])) p place (subst (λ (f : Forest _). IsSomeAnd (entry_of f.entries p) (λ e. place ≡ record { top = top_of e; depth = depth_of e + 1; last = head_of (young f.entries p) })) (sym c.self.view_is) c.in_ok-place.ensures.place);
       room = subst (λ (f : Forest _). page_size f.entries place.top ≢ 256) (sym c.self.view_is) c.in_ok-place.ensures.room;
@@ -162,7 +162,7 @@ returns-clause-made g c =
       slots = c.in-Ok.ensures.slots;
       taken = c.in-Ok.ensures.updates;
       node = c.below-node.ensures;
-      links = c.behind.ensures;
+      links = c.behind-links.ensures;
     } in
     let makes = makes-below s mid order c.self.inside.pages c.self.invariant p place h c.args.frame c.args.doc row embeds c.grow_page.new.rows c.grow_page.ensures c.link.new.rows c.link.ensures in
     rw (← c.self.view_is) makes.made
@@ -175,7 +175,7 @@ returns-clause-dead g c =
     let p = c.args.parent in
     let place = c.in_ok-place.place in
     let h = c.in-Ok.h in
-    let row : Row _ = record { node = c.below-node.result; size = 0; links = c.behind.result } in
+    let row : Row _ = record { node = c.below-node.result; size = 0; links = c.behind-links.result } in
     let embeds : Embeds s mid order p place h c.args.frame c.args.doc row = record {
       below = below-of (entries_in (kept s order [])) p place (subst (λ (f : Forest _). IsSomeAnd (entry_of f.entries p) (λ e. place ≡ record { top = top_of e; depth = depth_of e + 1; last = head_of (young f.entries p) })) (sym c.self.view_is) c.in_ok-place.ensures.place);
       room = subst (λ (f : Forest _). page_size f.entries place.top ≢ 256) (sym c.self.view_is) c.in_ok-place.ensures.room;
@@ -185,7 +185,7 @@ returns-clause-dead g c =
       slots = c.in-Ok.ensures.slots;
       taken = c.in-Ok.ensures.updates;
       node = c.below-node.ensures;
-      links = c.behind.ensures;
+      links = c.behind-links.ensures;
     } in
     let stay = StayDead-below s mid order c.self.inside.pages c.self.invariant p place h c.args.frame c.args.doc row embeds c.grow_page.new.rows c.grow_page.ensures c.link.new.rows c.link.ensures in
     rw (← c.self.view_is) (subst (λ hs. StayDead (forest_in s order) (forest_in c.link.new.rows hs)) (sym (c.push_reserved.ensures.items ∙ ap (λ hs. hs ++ h ∷ []) c.reserve.ensures.items)) stay)
