@@ -193,14 +193,14 @@ impl<D: Numbered> Frames<D> {
             Some(here) => here,
             None => return Err(TreeFault::Stale),
         };
-        let (below, mut docs) = match self.leaving(h) {
+        let (removed, mut docs) = match self.leaving(h) {
             Ok(leaving) => leaving,
             Err(_) => return Err(TreeFault::Memory),
         };
         docs.push_reserved(renew(&mut self.rows, h, doc));
-        take_all(&mut self.rows, &below, &mut docs);
-        shrink_page(&mut self.rows, Some(here.top), below.len() as u32);
-        sweep(&self.rows, &mut self.order, &mut self.dead, below.len());
+        take_all(&mut self.rows, &removed, &mut docs);
+        shrink_page(&mut self.rows, Some(here.top), removed.len() as u32);
+        sweep(&self.rows, &mut self.order, &mut self.dead, removed.len());
         Ok(docs)
     }
 

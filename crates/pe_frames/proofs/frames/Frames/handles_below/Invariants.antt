@@ -1,0 +1,6 @@
+use Rattle.std.proofs.Common.{length, ◌-◌}
+use Rattle.pe_frames.specs.Order.{handles_under}
+use Rattle.pe_frames.proofs.frames.Frames.handles_below.Given as goal
+
+abbrev pub decreases-loop-next : goal.decreases-loop-next
+decreases-loop-next g l = length (handles_under l.self.entries l.h) - length l.below.items
