@@ -9,5 +9,7 @@ pub mod Pages
 pub mod Sizes
 pub mod Standings
 pub mod Topped
+pub mod Tree
+pub mod TreeOrder
 pub mod Writes
 pub mod Written

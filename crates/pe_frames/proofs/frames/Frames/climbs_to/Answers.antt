@@ -1,0 +1,6 @@
+use Rattle.std.proofs.Common.{◌≡◌}
+use Rattle.pe_frames.proofs.TreeOrder.{walk-is, walk-once}
+use Rattle.pe_frames.proofs.frames.Frames.climbs_to.Goals as goal
+
+pub returns : goal.returns
+returns g c = ?
