@@ -8,8 +8,10 @@ pub mod Opened
 pub mod Pages
 pub mod Sizes
 pub mod Standings
+pub mod Subtrees
 pub mod Topped
 pub mod Tree
 pub mod TreeOrder
+pub mod Under
 pub mod Writes
 pub mod Written

@@ -8,7 +8,7 @@ use Rattle.pe_frames.specs.Order.{children, child_handles, tree_order}
 use Rattle.pe_frames.specs.Kept.{AreOnce}
 use Rattle.pe_frames.proofs.Nodes.{same_handle-Decides}
 use Rattle.pe_frames.proofs.Pages.{not_same}
-use Rattle.pe_frames.proofs.Tree.{Each, each-map, IsChild, IsParent, IsTree}
+use Rattle.pe_frames.proofs.Tree.{Each, each-append, each-map, IsChild, IsParent, IsTree}
 
 some_same : {A : Type 0} {a b : A} → Some a ≡ Some b → a ≡ b
 some_same q = cc
@@ -144,6 +144,16 @@ module _ {D : Type 0} where
           let u = below-each n k (λ c g s. walk-under n c g k s) e (children es e.handle) (children-next e f) b in
           record { entry = u.entry; found = u.found; rest = u.child ∷ u.rest; is = u.is }
     ]
+
+    live-each : (n : ℕ) → ((c : Entry D) → entry_of es c.handle ≡ Some c → Each (λ x. entry_of es x.handle ≡ Some x) (tree_order n es c)) → (e : Entry D) (cs : List (Entry D)) → Each (IsNext es e) cs → Each (λ x. entry_of es x.handle ≡ Some x) (flat_map (tree_order n es) cs)
+    live-each n each e [] next = tt
+    live-each n each e (c ∷ cs) next = each-append (λ (x : Entry D). entry_of es x.handle ≡ Some x) (tree_order n es c) (flat_map (tree_order n es) cs) (each c next.0.found) (live-each n each e cs next.1)
+
+    -- each frame of the walk is the live frame of its handle
+    pub walk-live : (n : ℕ) (e : Entry D) → entry_of es e.handle ≡ Some e → Each (λ x. entry_of es x.handle ≡ Some x) (tree_order n es e)
+    unfolding tree_order
+    walk-live zero e f = (f, tt)
+    walk-live (suc n) e f = (f, live-each n (λ c g. walk-live n c g) e (children es e.handle) (children-next e f))
 
     walks-below : (n : ℕ) (e : Entry D) (cs : List (Entry D)) → Each (IsNext es e) cs → (k : Handle) → has_handle k (walks n es cs) ≡ true → BelowAt es e cs k
     walks-below n e cs next k t = below-each n k (λ c g s. walk-under n c g k s) e cs next t
