@@ -13,5 +13,6 @@ pub mod Topped
 pub mod Tree
 pub mod TreeOrder
 pub mod Under
+pub mod Walking
 pub mod Writes
 pub mod Written

@@ -58,11 +58,11 @@ module _ {D : Type 0} where
   walks-are n es [] = refl
   walks-are n es (c ∷ cs) = map-append (λ (x : Entry D). x.handle) (tree_order n es c) (flat_map (tree_order n es) cs) ∙ ap (λ ks. walk n es c ++ ks) (walks-are n es cs)
 
-  walk-zero : (es : List (Entry D)) (e : Entry D) → walk zero es e ≡ e.handle ∷ []
+  pub walk-zero : (es : List (Entry D)) (e : Entry D) → walk zero es e ≡ e.handle ∷ []
   unfolding tree_order
   walk-zero es e = refl
 
-  walk-suc : (n : ℕ) (es : List (Entry D)) (e : Entry D) → walk (suc n) es e ≡ e.handle ∷ walks n es (children es e.handle)
+  pub walk-suc : (n : ℕ) (es : List (Entry D)) (e : Entry D) → walk (suc n) es e ≡ e.handle ∷ walks n es (children es e.handle)
   unfolding tree_order
   walk-suc n es e = ap (λ ks. e.handle ∷ ks) (walks-are n es (children es e.handle))
 

@@ -35,7 +35,7 @@ module _ {D : Type 0} where
   handles-none es h f = rw f refl
 
   -- the frame has its handle
-  its-own : (es : List (Entry D)) (h : Handle) (e : Entry D) → entry_of es h ≡ Some e → entry_of es e.handle ≡ Some e
+  pub its-own : (es : List (Entry D)) (h : Handle) (e : Entry D) → entry_of es h ≡ Some e → entry_of es e.handle ≡ Some e
   its-own es h e f = ap (entry_of es) (entry-handle es h e f) ∙ f
 
   module _ (es : List (Entry D)) (tree : IsTree es DEPTH_LIMIT) where

@@ -1,5 +1,5 @@
 use Rattle.std.proofs.Common.{◌≡◌}
-use Rattle.pe_frames.proofs.Under.{tree-forest, handles-once}
+use Rattle.pe_frames.proofs.Walking.{beyond-none}
 use Rattle.pe_frames.proofs.frames.Frames.climbs_to.Goals as goal
 
 pub returns : goal.returns
