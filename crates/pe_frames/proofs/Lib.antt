@@ -1,5 +1,6 @@
 pub mod Below
 pub mod Children
+pub mod Climbing
 pub mod Embedded
 pub mod Kin
 pub mod Linked

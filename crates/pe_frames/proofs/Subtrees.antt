@@ -52,6 +52,11 @@ module _ {D : Type 0} where
     pub above : e.above ≡ path entry
     pub under : is_under root entry ≡ true
 
+  -- the live frame of a handle
+  pub record LiveAt (es : List (Entry D)) (k : Handle) : Type 0 where
+    pub entry : Entry D
+    pub found : entry_of es k ≡ Some entry
+
   module _ (es : List (Entry D)) (levels : ℕ) (tree : IsTree es levels) where
     pub up-of : (root : Handle) (e : Entry D) → entry_of es e.handle ≡ Some e → is_under root e ≡ true → same_handle e.handle root ≡ false → IsUp es root e
     up-of root e f under other =
@@ -66,6 +71,23 @@ module _ {D : Type 0} where
           above = p.above;
           under = ap (has_handle root) (sym p.above) ∙ above;
         }
+
+    -- what a live frame is below is live
+    pub root-live : (root : Handle) (m : ℕ) (e : Entry D) → entry_of es e.handle ≡ Some e → length e.above ≤ m → is_under root e ≡ true → LiveAt es root
+    root-live root zero e f long under = elim (same_or_other e.handle root) as (λ _. LiveAt es root) [
+      | inl t ↦ record { entry = e; found = ap (entry_of es) (sym ((same_handle-Decides e.handle root).0 t)) ∙ f }
+      | inr t ↦
+          let up = up-of root e f under t in
+          let some = ap length up.above ∙ length-append up.entry.above (up.entry.handle ∷ []) in
+          absurd (omega (arith, long, some))
+    ]
+    root-live root (suc m) e f long under = elim (same_or_other e.handle root) as (λ _. LiveAt es root) [
+      | inl t ↦ record { entry = e; found = ap (entry_of es) (sym ((same_handle-Decides e.handle root).0 t)) ∙ f }
+      | inr t ↦
+          let up = up-of root e f under t in
+          let some = ap length up.above ∙ length-append up.entry.above (up.entry.handle ∷ []) in
+          root-live root m up.entry up.found (omega (arith, long, some)) up.under
+    ]
 
     -- with enough levels, where the walk of a frame stands, that of its child stands in it
     pub split-below : (n : ℕ) → levels ≤ n → (root a c : Entry D) (front back : List Handle) (before behind : List (Entry D)) → entry_of es a.handle ≡ Some a → children es a.handle ≡ before ++ c ∷ behind

@@ -63,6 +63,7 @@ module _ {D : Type 0} where
     pub listed : (p : Handle) (c : Entry D) → IsChild es p c → Splits (children es p) c
     pub parent : (p : Handle) (c : Entry D) → IsChild es p c → IsParent es p c
     pub once : (p : Handle) → AreOnce (child_handles es p)
+    pub single : (p : Handle) → AreOnce (young es p)
     pub shallow : (c : Entry D) → entry_of es c.handle ≡ Some c → length c.above ≤ levels
 
   -- a frame keeps its place behind a newer one
@@ -148,5 +149,6 @@ module _ {D : Type 0} where
     listed = listed-of xs;
     parent = parent-of xs are apart;
     once = λ p. subst AreOnce (sym (children-turned (entries_in xs) p)) (once-turned (young (entries_in xs) p) (children-once xs are apart p));
+    single = children-once xs are apart;
     shallow = shallow;
   }
