@@ -141,7 +141,7 @@ module _ {D : Type 0} where
     within : (root k : Handle) → IsWithin es root k → Within root k
     within root k w =
         let u = within-entry es root k w in
-        let at = root-live es DEPTH_LIMIT tree root (length u.entry.above) u.entry (its-own es k u.entry u.found) (omega arith) u.under in
+        let at = root-live es DEPTH_LIMIT tree root u.entry (its-own es k u.entry u.found) u.under in
         let named = entry-handle es root at.entry at.found in
         record {
           top = at.entry;
@@ -235,12 +235,13 @@ module _ {D : Type 0} where
             ∙ next-first es DEPTH_LIMIT tree DEPTH_LIMIT (omega arith) i.top i.own i.under.entry (its-own es k i.under.entry i.under.found) i.under.under c first)
 
     -- where there is none, what is past the frame
-    pub follows-past : (root k : Handle) (here : Standing) → IsWithin es root k → StandsAt es k here → is_some here.links.first ≡ false → past_of es root k ≡ after k (handles_under es root)
-    follows-past root k here w at none =
+    pub follows-past : (root k : Handle) (here : Standing) → IsWithin es root k → StandsAt es k here → is_some here.links.first ≡ false → (answer : Option Handle) → answer ≡ past_of es root k → answer ≡ after k (handles_under es root)
+    follows-past root k here w at none answer p =
         let i = within root k w in
         let handle = entry-handle es k i.under.entry i.under.found in
         let first : head_of (child_handles es i.under.entry.handle) ≡ None = ap (λ j. head_of (child_handles es j)) handle ∙ first-child es k ∙ sym (ap (λ x. x.links.first) at.is) ∙ no_first here.links.first none in
-        past-is root k i.top i.under.entry i.whole i.under.found
+        p
+        ∙ past-is root k i.top i.under.entry i.whole i.under.found
         ∙ next-none es DEPTH_LIMIT tree DEPTH_LIMIT (omega arith) i.top i.own i.under.entry (its-own es k i.under.entry i.under.found) first
         ∙ ap (λ j. after j (walk DEPTH_LIMIT es i.top)) handle
         ∙ sym (ap (after k) i.whole)
@@ -287,30 +288,21 @@ module _ {D : Type 0} where
       behind-listed = ap (after at) so_far.is ∙ after-split so_far.front at so_far.back (subst AreOnce so_far.is (handles-once es tree root))
 
       -- what stands behind it is listed next
-      pub listed-next : (next : Handle) → after at (handles_under es root) ≡ Some next → IsListed es root next (below ++ next ∷ [])
-      listed-next next q = by_back so_far.back refl (sym behind-listed ∙ q)
+      pub listed-next : (answer : Option Handle) (next : Handle) → answer ≡ after at (handles_under es root) → answer ≡ Some next → IsListed es root next (below ++ next ∷ [])
+      listed-next answer next p q = by_back so_far.back refl (sym behind-listed ∙ sym p ∙ q)
         where
           by_back : (ks : List Handle) → so_far.back ≡ ks → head_of ks ≡ Some next → IsListed es root next (below ++ next ∷ [])
-          by_back [] e p = absurd cc
-          by_back (k ∷ ks) e p = record {
+          by_back [] e t = absurd cc
+          by_back (k ∷ ks) e t = record {
             front = so_far.front ++ at ∷ [];
             back = ks;
             listed = ap (λ js. js ++ next ∷ []) so_far.listed;
-            is = so_far.is ∙ ap (λ js. so_far.front ++ at ∷ js) e ∙ ap (λ j. so_far.front ++ at ∷ (j ∷ ks)) (some_same p) ∙ sym (append_assoc so_far.front (at ∷ []) (next ∷ ks));
+            is = so_far.is ∙ ap (λ js. so_far.front ++ at ∷ js) e ∙ ap (λ j. so_far.front ++ at ∷ (j ∷ ks)) (some_same t) ∙ sym (append_assoc so_far.front (at ∷ []) (next ∷ ks));
           }
 
-      -- and then fewer are left
-      pub listed-fewer : (next : Handle) → after at (handles_under es root) ≡ Some next → length below + 1 < length (handles_under es root)
-      listed-fewer next q =
-          let then = listed-next next q in
-          let some = ap length then.is ∙ length-append then.front (next ∷ then.back) in
-          let read = ap length then.listed ∙ length-append then.front (next ∷ []) in
-          let more = length-append below (next ∷ []) in
-          omega (arith, some, read, more)
-
       -- where nothing stands behind it, all are listed
-      pub listed-all : after at (handles_under es root) ≡ None → root ∷ below ≡ handles_under es root
-      listed-all q = so_far.listed ∙ ap (λ ks. so_far.front ++ at ∷ ks) (sym (no_head so_far.back (sym behind-listed ∙ q))) ∙ sym so_far.is
+      pub listed-all : (answer : Option Handle) → answer ≡ after at (handles_under es root) → answer ≡ None → root ∷ below ≡ handles_under es root
+      listed-all answer p q = so_far.listed ∙ ap (λ ks. so_far.front ++ at ∷ ks) (sym (no_head so_far.back (sym behind-listed ∙ sym p ∙ q))) ∙ sym so_far.is
         where
           no_head : (ks : List Handle) → head_of ks ≡ None → ks ≡ []
           no_head [] e = refl

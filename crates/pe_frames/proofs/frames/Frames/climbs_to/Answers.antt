@@ -1,9 +1,7 @@
 use Rattle.std.proofs.Common.{◌≡◌, true, false, sym, ap, subst, ◌∙◌, refl, true≢false}
-use Rattle.pe_base.specs.declared.limits.TheConstants.{DEPTH_LIMIT}
-use Rattle.pe_frames.specs.Forest.{Forest, same_handle}
+use Rattle.pe_frames.specs.Forest.{same_handle}
 use Rattle.pe_frames.proofs.Nodes.{same_handle-Decides}
-use Rattle.pe_frames.proofs.Tree.{IsTree}
-use Rattle.pe_frames.proofs.Under.{tree-forest}
+use Rattle.pe_frames.proofs.Under.{tree-seen}
 use Rattle.pe_frames.proofs.Climbing.{differ, agree, within-root, within-top, within-up, within-down, parent-lives, parent-shorter}
 use Rattle.pe_frames.proofs.frames.Frames.climbs_to.Goals as goal
 
@@ -19,13 +17,13 @@ returns-in_default g c =
 
 pub loop-root-smaller : goal.loop-root-smaller
 loop-root-smaller g c =
-    let tree = subst (λ (f : Forest _). IsTree f.entries DEPTH_LIMIT) c.self.view_is (tree-forest c.self.inside.rows c.self.inside.order.items c.self.inside.pages c.self.invariant) in
+    let tree = tree-seen c.self.inside.rows c.self.inside.order.items c.self.inside.pages c.self.invariant c.args.self.now c.self.view_is in
     parent-shorter c.args.self.now.entries tree c.loop-root.up c.in-Some.parent (sym c.parent.ensures ∙ c.in-Some.is)
 
 pub loop-root-preserved : goal.loop-root-preserved
 loop-root-preserved g c =
     let es = c.args.self.now.entries in
-    let tree = subst (λ (f : Forest _). IsTree f.entries DEPTH_LIMIT) c.self.view_is (tree-forest c.self.inside.rows c.self.inside.order.items c.self.inside.pages c.self.invariant) in
+    let tree = tree-seen c.self.inside.rows c.self.inside.order.items c.self.inside.pages c.self.invariant c.args.self.now c.self.view_is in
     let up = c.loop-root.up in
     let parent = sym c.parent.ensures ∙ c.in-Some.is in
     let other = differ c.ne.result (same_handle up c.args.root) c.ne.ensures c.loop-root-test.true in

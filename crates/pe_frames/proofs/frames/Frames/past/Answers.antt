@@ -1,12 +1,10 @@
 use Rattle.std.proofs.Common.{◌≡◌, Some, None, true, false, sym, ap, subst, ◌∙◌, refl, true≢false}
 use Rattle.std.specs.Option.{option_map, option_and_then}
-use Rattle.pe_base.specs.declared.limits.TheConstants.{DEPTH_LIMIT}
-use Rattle.pe_frames.specs.Forest.{Forest, same_handle, entry_of, parent_of}
+use Rattle.pe_frames.specs.Forest.{same_handle, entry_of, parent_of}
 use Rattle.pe_frames.specs.Kept.{standing_in}
 use Rattle.pe_frames.proofs.Nodes.{same_handle-Decides}
 use Rattle.pe_frames.proofs.Standings.{no-entry, stands-at}
-use Rattle.pe_frames.proofs.Tree.{IsTree}
-use Rattle.pe_frames.proofs.Under.{tree-forest}
+use Rattle.pe_frames.proofs.Under.{tree-seen}
 use Rattle.pe_frames.proofs.Climbing.{differ, agree, within-entry, within-top, within-up, parent-shorter, past-root, past-later, past-none, parent-stands, within-dead}
 use Rattle.pe_frames.proofs.frames.Frames.past.Goals as goal
 
@@ -20,7 +18,7 @@ pub returns-then-is_some : goal.returns-then-is_some
 returns-then-is_some g c =
     let es = c.args.self.now.entries in
     let up = c.loop-root.up in
-    let tree = subst (λ (f : Forest _). IsTree f.entries DEPTH_LIMIT) c.self.view_is (tree-forest c.self.inside.rows c.self.inside.order.items c.self.inside.pages c.self.invariant) in
+    let tree = tree-seen c.self.inside.rows c.self.inside.order.items c.self.inside.pages c.self.invariant c.args.self.now c.self.view_is in
     let other = differ c.ne.result (same_handle up c.args.root) c.ne.ensures c.loop-root-test.true in
     let at = stands-at es up c.standing.result c.in_ok-here.here c.in_ok-here.was c.standing.ensures.value in
     past-later es tree c.args.root up c.in_ok-here.here c.loop-root.invariant.below other at (sym c.is_some.ensures ∙ c.if-is_some.true) ∙ c.loop-root.invariant.same
@@ -37,7 +35,7 @@ pub loop-root-smaller : goal.loop-root-smaller
 loop-root-smaller g c =
     let es = c.args.self.now.entries in
     let up = c.loop-root.up in
-    let tree = subst (λ (f : Forest _). IsTree f.entries DEPTH_LIMIT) c.self.view_is (tree-forest c.self.inside.rows c.self.inside.order.items c.self.inside.pages c.self.invariant) in
+    let tree = tree-seen c.self.inside.rows c.self.inside.order.items c.self.inside.pages c.self.invariant c.args.self.now c.self.view_is in
     let at = stands-at es up c.standing.result c.in_ok-here.here c.in_ok-here.was c.standing.ensures.value in
     parent-shorter es tree up c.in_ok-up.up (parent-stands es up c.in_ok-here.here at ∙ c.in_ok-up.was)
 
@@ -45,7 +43,7 @@ pub loop-root-preserved : goal.loop-root-preserved
 loop-root-preserved g c =
     let es = c.args.self.now.entries in
     let up = c.loop-root.up in
-    let tree = subst (λ (f : Forest _). IsTree f.entries DEPTH_LIMIT) c.self.view_is (tree-forest c.self.inside.rows c.self.inside.order.items c.self.inside.pages c.self.invariant) in
+    let tree = tree-seen c.self.inside.rows c.self.inside.order.items c.self.inside.pages c.self.invariant c.args.self.now c.self.view_is in
     let other = differ c.ne.result (same_handle up c.args.root) c.ne.ensures c.loop-root-test.true in
     let at = stands-at es up c.standing.result c.in_ok-here.here c.in_ok-here.was c.standing.ensures.value in
     record {
@@ -57,6 +55,6 @@ pub returns : goal.returns
 returns g c =
     let es = c.args.self.now.entries in
     let up = c.loop-root.up in
-    let tree = subst (λ (f : Forest _). IsTree f.entries DEPTH_LIMIT) c.self.view_is (tree-forest c.self.inside.rows c.self.inside.order.items c.self.inside.pages c.self.invariant) in
+    let tree = tree-seen c.self.inside.rows c.self.inside.order.items c.self.inside.pages c.self.invariant c.args.self.now c.self.view_is in
     let same = (same_handle-Decides up c.args.root).0 (agree c.ne.result (same_handle up c.args.root) c.ne.ensures c.loop-root-test.false) in
     sym (past-root es tree c.args.root up c.loop-root.invariant.below same) ∙ c.loop-root.invariant.same

@@ -1,12 +1,9 @@
 use Rattle.std.proofs.Common.{◌≡◌, sym, subst, ◌∙◌, true≢false}
-use Rattle.pe_base.specs.declared.limits.TheConstants.{DEPTH_LIMIT}
-use Rattle.pe_frames.specs.Forest.{Forest}
-use Rattle.pe_frames.proofs.Tree.{IsTree}
-use Rattle.pe_frames.proofs.Under.{tree-forest}
+use Rattle.pe_frames.proofs.Under.{tree-seen}
 use Rattle.pe_frames.proofs.Climbing.{after-outside}
 use Rattle.pe_frames.proofs.frames.Frames.preorder_next.Goals as goal
 
 pub returns-then-not-is_within-clause-value : goal.returns-then-not-is_within-clause-value
 returns-then-not-is_within-clause-value g c =
-    let tree = subst (λ (f : Forest _). IsTree f.entries DEPTH_LIMIT) c.self.view_is (tree-forest c.self.inside.rows c.self.inside.order.items c.self.inside.pages c.self.invariant) in
+    let tree = tree-seen c.self.inside.rows c.self.inside.order.items c.self.inside.pages c.self.invariant c.args.self.now c.self.view_is in
     sym (after-outside c.args.self.now.entries tree c.args.root c.args.at (λ w. true≢false (sym (c.is_within.ensures.1 w) ∙ c.if-not-is_within.true)))
