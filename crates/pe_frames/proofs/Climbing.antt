@@ -1,17 +1,17 @@
 -- The way up from a frame to the root, and what stands behind the frame meanwhile.
-use Rattle.std.proofs.Common.{◌≡◌, ◌⊎◌, inl, inr, ℕ, ◌+◌, ◌<◌, ◌≤◌, Bool, true, false, not, cond, ◌||◌, List, [], ◌∷◌, ◌++◌, length, length-append, append_assoc, Option, None, Some, IsSome, is_some, refl, sym, ap, subst, ◌∙◌, arith, true≢false}
+use Rattle.std.proofs.Common.{◌≡◌, ◌<◌, Bool, true, false, not, ◌||◌, List, [], ◌∷◌, ◌++◌, length, length-append, append_assoc, Option, None, Some, IsSome, is_some, refl, sym, ap, subst, ◌∙◌, arith, true≢false}
 use Rattle.std.specs.Prelude.{unwrap_or, IsSomeAnd, IsTrue}
 use Rattle.std.specs.Option.{option_and_then, option_map}
 use Rattle.pe_base.specs.declared.limits.TheConstants.{DEPTH_LIMIT}
 use Rattle.pe_arena.specs.declared.handle.Handle.{Handle}
 use Rattle.pe_frames.specs.declared.row.Standing.{Standing}
-use Rattle.pe_frames.specs.Forest.{Entry, same_handle, has_handle, first_of, last_of, top_of, path, path_of, parent_of, entry_of, is_under}
+use Rattle.pe_frames.specs.Forest.{Entry, same_handle, has_handle, last_of, path, path_of, parent_of, entry_of, is_under}
 use Rattle.pe_frames.specs.Order.{head_of, after, children, child_handles, handles_under}
-use Rattle.pe_frames.specs.Links.{before, siblings, young}
+use Rattle.pe_frames.specs.Links.{before, siblings}
 use Rattle.pe_frames.specs.Kept.{AreOnce, standing_in}
-use Rattle.pe_frames.proofs.Nodes.{same_handle-Decides, same_or_other}
+use Rattle.pe_frames.proofs.Nodes.{same_handle-Decides}
 use Rattle.pe_frames.proofs.Pages.{not_same}
-use Rattle.pe_frames.proofs.Below.{entry-handle, last-push}
+use Rattle.pe_frames.proofs.Below.{entry-handle}
 use Rattle.pe_frames.proofs.Children.{after-absent, first-child, later-child}
 use Rattle.pe_frames.proofs.Standings.{StandsAt}
 use Rattle.pe_frames.proofs.Tree.{IsParent, IsTree}

@@ -1,12 +1,12 @@
 -- Where the frames below one stand among those below another, in tree order.
-use Rattle.std.proofs.Common.{◌≡◌, inl, inr, ℕ, zero, suc, ◌+◌, ◌≤◌, Bool, true, false, cond, ◌||◌, List, [], ◌∷◌, ◌++◌, map, length, length-append, append_assoc, Option, None, Some, refl, sym, ap, subst, ◌∙◌, arith, true≢false}
+use Rattle.std.proofs.Common.{◌≡◌, inl, inr, ℕ, zero, suc, ◌≤◌, Bool, true, false, ◌||◌, List, [], ◌∷◌, ◌++◌, length, length-append, append_assoc, Some, refl, sym, ap, ◌∙◌, arith, true≢false}
 use Rattle.std.proofs.lemmas.List.{append-nil}
 use Rattle.pe_arena.specs.declared.handle.Handle.{Handle}
 use Rattle.pe_frames.specs.Forest.{Entry, same_handle, has_handle, last_of, path, parent_of, entry_of, is_under}
 use Rattle.pe_frames.specs.Order.{children}
 use Rattle.pe_frames.proofs.Nodes.{same_handle-Decides, same_or_other}
 use Rattle.pe_frames.proofs.Below.{entry-handle}
-use Rattle.pe_frames.proofs.Tree.{Splits, IsChild, IsParent, IsTree}
+use Rattle.pe_frames.proofs.Tree.{IsTree}
 use Rattle.pe_frames.proofs.TreeOrder.{walk, walks, walks-append, walk-is, has-append}
 
 some_same : {A : Type 0} {a b : A} → Some a ≡ Some b → a ≡ b

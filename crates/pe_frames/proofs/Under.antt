@@ -1,12 +1,12 @@
 -- The handles of a frame and those below it: each is of a live frame below it, all these are there, and none is there twice.
-use Rattle.std.proofs.Common.{◌≡◌, ℕ, ◌+◌, ◌≤◌, true, false, ◌||◌, List, [], ◌∷◌, ◌++◌, map, length, Option, None, Some, is_some, refl, sym, ap, subst, ◌∙◌, arith, true≢false}
+use Rattle.std.proofs.Common.{◌≡◌, ℕ, true, ◌||◌, List, [], Option, None, Some, refl, sym, ap, subst, ◌∙◌, arith, true≢false}
 use Rattle.std.specs.Option.{option_map}
 use Rattle.pe_base.specs.declared.limits.TheConstants.{DEPTH_LIMIT}
 use Rattle.pe_arena.specs.declared.handle.Handle.{Handle}
 use Rattle.pe_arena.specs.Slots.{Slots}
 use Rattle.pe_frames.specs.declared.row.Row.{Row}
 use Rattle.pe_frames.specs.Forest.{Entry, Forest, has_handle, path, entry_of, node_in, is_under}
-use Rattle.pe_frames.specs.Order.{tree_order, in_tree_order, handles_under}
+use Rattle.pe_frames.specs.Order.{in_tree_order, handles_under}
 use Rattle.pe_frames.specs.Kept.{kept, entries_in, forest_in, IsForest, AreOnce}
 use Rattle.pe_frames.proofs.Nodes.{same_handle-Decides, found-live}
 use Rattle.pe_frames.proofs.Below.{entry-handle}

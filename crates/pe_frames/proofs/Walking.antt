@@ -1,20 +1,16 @@
 -- What stands directly behind a frame in tree order, and what behind all below it.
-use Rattle.std.proofs.Common.{◌≡◌, ◌⊎◌, inl, inr, ℕ, zero, suc, ◌+◌, ◌≤◌, Bool, true, false, cond, ◌||◌, List, [], ◌∷◌, ◌++◌, map, length, append_assoc, Option, None, Some, refl, sym, ap, subst, ◌∙◌, arith, true≢false}
+use Rattle.std.proofs.Common.{◌≡◌, ℕ, zero, suc, ◌≤◌, Bool, true, false, cond, ◌||◌, List, [], ◌∷◌, ◌++◌, map, append_assoc, Option, None, Some, refl, sym, ap, subst, ◌∙◌, true≢false}
 use Rattle.std.specs.Prelude.{unwrap_or}
 use Rattle.std.proofs.lemmas.List.{append-nil, map-append}
-use Rattle.pe_base.specs.declared.limits.TheConstants.{DEPTH_LIMIT}
 use Rattle.pe_arena.specs.declared.handle.Handle.{Handle}
-use Rattle.pe_frames.specs.Forest.{Entry, same_handle, has_handle, last_of, path, parent_of, entry_of, is_under}
-use Rattle.pe_frames.specs.Order.{head_of, after, children, child_handles, tree_order, handles_under}
+use Rattle.pe_frames.specs.Forest.{Entry, same_handle, has_handle, last_of, entry_of, is_under}
+use Rattle.pe_frames.specs.Order.{head_of, after, children, child_handles}
 use Rattle.pe_frames.specs.Kept.{AreOnce}
 use Rattle.pe_frames.proofs.Nodes.{same_handle-Decides}
 use Rattle.pe_frames.proofs.Pages.{not_same}
-use Rattle.pe_frames.proofs.Below.{entry-handle}
-use Rattle.pe_frames.proofs.Children.{after-absent}
 use Rattle.pe_frames.proofs.Tree.{IsTree}
 use Rattle.pe_frames.proofs.TreeOrder.{walk, walks, walk-is, walk-once, walk-zero, walk-suc, has-append}
-use Rattle.pe_frames.proofs.Subtrees.{IsUp, up-of, split-below, stands-of}
-use Rattle.pe_frames.proofs.Under.{IsUnder, handles-are, handles-live, its-own}
+use Rattle.pe_frames.proofs.Subtrees.{IsUp, split-below, stands-of}
 
 -- what stands directly behind a handle that stands once
 pub after-split : (front : List Handle) (k : Handle) (back : List Handle) → AreOnce (front ++ k ∷ back) → after k (front ++ k ∷ back) ≡ head_of back

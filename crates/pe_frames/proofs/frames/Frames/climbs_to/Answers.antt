@@ -1,4 +1,4 @@
-use Rattle.std.proofs.Common.{◌≡◌, true, false, sym, ap, subst, ◌∙◌, refl, true≢false}
+use Rattle.std.proofs.Common.{sym, ◌∙◌, refl, true≢false}
 use Rattle.pe_frames.specs.Forest.{same_handle}
 use Rattle.pe_frames.proofs.Nodes.{same_handle-Decides}
 use Rattle.pe_frames.proofs.Under.{tree-seen}

@@ -1,4 +1,4 @@
-use Rattle.std.proofs.Common.{◌≡◌, Some, None, true, false, sym, ap, subst, ◌∙◌}
+use Rattle.std.proofs.Common.{sym, ◌∙◌}
 use Rattle.pe_frames.proofs.Standings.{stands-at}
 use Rattle.pe_frames.proofs.Under.{tree-seen}
 use Rattle.pe_frames.proofs.Climbing.{follows-first, follows-past}

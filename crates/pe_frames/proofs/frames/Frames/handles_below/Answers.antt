@@ -1,4 +1,4 @@
-use Rattle.std.proofs.Common.{sym, ap, subst, ◌∙◌}
+use Rattle.std.proofs.Common.{sym, subst}
 use Rattle.pe_frames.proofs.Under.{tree-seen}
 use Rattle.pe_frames.proofs.Climbing.{IsListed, listed-root, listed-within, listed-next, listed-all}
 use Rattle.pe_frames.proofs.frames.Frames.handles_below.Goals as goal

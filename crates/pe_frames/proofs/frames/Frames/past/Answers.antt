@@ -1,11 +1,9 @@
-use Rattle.std.proofs.Common.{◌≡◌, Some, None, true, false, sym, ap, subst, ◌∙◌, refl, true≢false}
-use Rattle.std.specs.Option.{option_map, option_and_then}
-use Rattle.pe_frames.specs.Forest.{same_handle, entry_of, parent_of}
-use Rattle.pe_frames.specs.Kept.{standing_in}
+use Rattle.std.proofs.Common.{sym, ◌∙◌}
+use Rattle.pe_frames.specs.Forest.{same_handle}
 use Rattle.pe_frames.proofs.Nodes.{same_handle-Decides}
 use Rattle.pe_frames.proofs.Standings.{no-entry, stands-at}
 use Rattle.pe_frames.proofs.Under.{tree-seen}
-use Rattle.pe_frames.proofs.Climbing.{differ, agree, within-entry, within-top, within-up, parent-shorter, past-root, past-later, past-none, parent-stands, within-dead}
+use Rattle.pe_frames.proofs.Climbing.{differ, agree, within-top, within-up, parent-shorter, past-root, past-later, past-none, parent-stands, within-dead}
 use Rattle.pe_frames.proofs.frames.Frames.past.Goals as goal
 
 pub returns-in_err-here : goal.returns-in_err-here

@@ -1,4 +1,4 @@
-use Rattle.std.proofs.Common.{◌≡◌, sym, subst, ◌∙◌, true≢false}
+use Rattle.std.proofs.Common.{sym, ◌∙◌, true≢false}
 use Rattle.pe_frames.proofs.Under.{tree-seen}
 use Rattle.pe_frames.proofs.Climbing.{after-outside}
 use Rattle.pe_frames.proofs.frames.Frames.preorder_next.Goals as goal
