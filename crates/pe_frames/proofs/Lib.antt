@@ -6,6 +6,7 @@ pub mod Linked
 pub mod Nodes
 pub mod Opened
 pub mod Pages
+pub mod Removed
 pub mod Sizes
 pub mod Standings
 pub mod Topped
