@@ -1,14 +1,15 @@
 -- Rows that were removed.
-use Rattle.std.proofs.Common.{◌≡◌, ◌≢◌, ◌⊎◌, inl, inr, ℕ, Bool, true, false, cond, ◌||◌, List, [], ◌∷◌, ◌++◌, map, Option, None, Some, IsSome, is_some, refl, sym, ap, subst, ◌∙◌, true≢false}
+use Rattle.std.proofs.Common.{◌≡◌, ◌≢◌, ◌⊎◌, inl, inr, ℕ, zero, suc, ◌+◌, ◌<◌, ◌≤◌, add-one, append_assoc, arith, length, length-append, get_or, take, Bool, true, false, cond, ◌||◌, List, [], ◌∷◌, ◌++◌, map, Option, None, Some, IsSome, is_some, refl, sym, ap, subst, ◌∙◌, true≢false}
 use Rattle.std.specs.Prelude.{filter}
 use Rattle.std.specs.Option.{option_map}
+use Rattle.std.proofs.Math.Seq.{take-suc}
 use Rattle.pe_arena.specs.declared.handle.Handle.{Handle}
 use Rattle.pe_arena.specs.Slots.{Slot, Slots, live, mark, emptied, Updates}
 use Rattle.pe_frames.specs.declared.row.Row.{Row}
 use Rattle.pe_frames.specs.declared.node.Node.{Node}
 use Rattle.pe_frames.specs.Forest.{same_handle, has_handle}
 use Rattle.pe_frames.specs.Links.{SameMarks, Removes, doc_before, docs_at}
-use Rattle.pe_frames.specs.Kept.{Kept, joined, shown, kept, Sweeps}
+use Rattle.pe_frames.specs.Kept.{Kept, joined, shown, kept, Sweeps, AreOnce}
 use Rattle.pe_frames.proofs.Nodes.{same_handle-Decides, same_or_other}
 use Rattle.pe_frames.proofs.Writes.{map-set_same, different, SameMarks-refl, SameMarks-then}
 
@@ -134,3 +135,45 @@ module _ {D : Type 0} where
     listed = λ h p q. swept-listed (is_shown s) h (live_of (live s h) p) old q;
     known = λ h q. swept-known (is_shown s) h old q;
   })
+
+get-has : (ks : List Handle) (i : ℕ) (d : Handle) → i < length ks → has_handle (get_or ks i d) ks ≡ true
+get-has [] i d lt = absurd (omega (arith, lt))
+get-has (k ∷ ks) zero d lt = ap (λ b. b || has_handle k ks) ((same_handle-Decides k k).1 refl)
+get-has (k ∷ ks) (suc i) d lt = ap (λ b. same_handle k (get_or ks i d) || b) (get-has ks i d (omega (arith, lt))) ∙ or_right (same_handle k (get_or ks i d))
+  where
+    or_right : (b : Bool) → (b || true) ≡ true
+    or_right true = refl
+    or_right false = refl
+
+-- what stands at a place does not stand before it
+pub once-at : (ks : List Handle) (i : ℕ) (d : Handle) → AreOnce ks → i < length ks → has_handle (get_or ks i d) (take i ks) ≡ false
+once-at [] i d once lt = absurd (omega (arith, lt))
+once-at (k ∷ ks) zero d once lt = refl
+once-at (k ∷ ks) (suc i) d once lt =
+    ap (λ b. b || has_handle (get_or ks i d) (take i ks)) other
+    ∙ once-at ks i d once.1 (omega (arith, lt))
+  where
+    other : same_handle k (get_or ks i d) ≡ false
+    other = elim (same_or_other k (get_or ks i d)) as (λ _. same_handle k (get_or ks i d) ≡ false) [
+      | inl t ↦ absurd (true≢false (sym (ap (λ x. has_handle x ks) ((same_handle-Decides k (get_or ks i d)).0 t) ∙ get-has ks i d (omega (arith, lt))) ∙ once.0))
+      | inr f ↦ f
+    ]
+
+module _ {D : Type 0} where
+  -- one more handle of the list was removed
+  pub Removes-step : (a b c : Slots (Row D)) (ks : List Handle) (i : ℕ) (d : Handle) → i < length ks → Removes a b (take i ks) → Removes b c (get_or ks i d ∷ []) → Removes a c (take (i + 1) ks)
+  Removes-step a b c ks i d lt x y = subst (Removes a c) (sym (ap (λ n. take n ks) (add-one i) ∙ take-suc ks i d lt)) (Removes-push a b c (take i ks) (get_or ks i d) x y)
+
+  -- and its document was put behind the others
+  pub docs-step : (a b : Slots (Row D)) (ks : List Handle) (i : ℕ) (d : Handle) → i < length ks → AreOnce ks → Removes a b (take i ks) → (xs ys zs : List D) → ys ≡ xs ++ docs_at a (take i ks) → zs ≡ ys ++ docs_at b (get_or ks i d ∷ []) → zs ≡ xs ++ docs_at a (take (i + 1) ks)
+  docs-step a b ks i d lt once x xs ys zs e f =
+      f
+      ∙ ap (λ us. us ++ docs_at b (get_or ks i d ∷ [])) e
+      ∙ ap (λ us. (xs ++ docs_at a (take i ks)) ++ us) (docs-still a b (take i ks) (get_or ks i d) x (once-at ks i d once lt))
+      ∙ append_assoc xs (docs_at a (take i ks)) (docs_at a (get_or ks i d ∷ []))
+      ∙ ap (λ us. xs ++ us) (sym (docs-push a (take i ks) (get_or ks i d)))
+      ∙ ap (λ us. xs ++ docs_at a us) (sym (ap (λ n. take n ks) (add-one i) ∙ take-suc ks i d lt))
+
+  pub one-more : (o : Option (Row D)) (xs : List D) → length (xs ++ doc_before o []) ≤ length xs + 1
+  one-more None xs = let n = length-append xs [] in omega (arith, n)
+  one-more (Some r) xs = let n = length-append xs (r.node.doc ∷ []) in omega (arith, n)

@@ -44,6 +44,7 @@ impl<D: Numbered> Frames<D> {
         ensures stale { entry_of self.now.entries at ≡ None → result ≡ None }
         ensures outside { IfSome (entry_of self.now.entries at) (λ e. is_under root e ≡ false → result ≡ None) }
     {
+        let _ = &self.order;
         if !self.is_within(root, at) {
             return None;
         }
@@ -54,6 +55,7 @@ impl<D: Numbered> Frames<D> {
     fn is_within(&self, root: Handle, at: Handle) -> bool
         ensures { IsTrue result ↔ IsSomeAnd (entry_of self.now.entries at) (λ e. IsTrue (is_under root e)) }
     {
+        let _ = &self.order;
         let Some(top) = self.top(at) else {
             return false;
         };
@@ -68,6 +70,7 @@ impl<D: Numbered> Frames<D> {
         requires { IsSome (entry_of self.now.entries at) }
         ensures { IsTrue result ↔ IsSomeAnd (entry_of self.now.entries at) (λ e. IsTrue (is_under root e)) }
     {
+        let _ = &self.order;
         let mut up = at;
         while up != root {
             let Some(parent) = self.parent(up) else {
@@ -83,6 +86,7 @@ impl<D: Numbered> Frames<D> {
         requires { IsSomeAnd (entry_of self.now.entries at) (λ e. IsTrue (is_under root e)) }
         ensures { result ≡ after at (handles_under self.now.entries root) }
     {
+        let _ = &self.order;
         let first = self.standing(at)?.links.first;
         if first.is_some() {
             return first;
@@ -96,6 +100,7 @@ impl<D: Numbered> Frames<D> {
         requires { IsSomeAnd (entry_of self.now.entries at) (λ e. IsTrue (is_under root e)) }
         ensures { result ≡ after (unwrap_or (last_of (handles_under self.now.entries at)) at) (handles_under self.now.entries root) }
     {
+        let _ = &self.order;
         let mut up = at;
         while up != root {
             let here = self.standing(up)?;
