@@ -10,5 +10,6 @@ pub mod Removed
 pub mod Sizes
 pub mod Standings
 pub mod Topped
+pub mod Upward
 pub mod Writes
 pub mod Written
