@@ -1,4 +1,4 @@
-use Rattle.std.proofs.Common.{◌≡◌, ◌≤◌, ◌+◌, arith, ap, ◌∙◌, length, get_or}
+use Rattle.std.proofs.Common.{arith, ap, ◌∙◌, length, get_or}
 use Rattle.pe_arena.specs.declared.handle.Handle.{Handle}
 use Rattle.pe_arena.specs.Slots.{live}
 use Rattle.pe_frames.proofs.Removed.{Removes-step, docs-step, one-more}

@@ -1,4 +1,4 @@
-use Rattle.std.proofs.Common.{◌≡◌, true, ap, ◌∙◌, sym, refl, []}
+use Rattle.std.proofs.Common.{ap, ◌∙◌, sym, refl, []}
 use Rattle.pe_frames.specs.Forest.{same_handle}
 use Rattle.pe_frames.specs.Kept.{kept}
 use Rattle.pe_frames.proofs.Upward.{within-root, within-none, climb, not_same_handle, not_other_handle}
