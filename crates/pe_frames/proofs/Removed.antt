@@ -10,20 +10,8 @@ use Rattle.pe_frames.specs.declared.node.Node.{Node}
 use Rattle.pe_frames.specs.Forest.{same_handle, has_handle}
 use Rattle.pe_frames.specs.Links.{SameMarks, Removes, doc_before, docs_at}
 use Rattle.pe_frames.specs.Kept.{Kept, joined, shown, kept, Sweeps, AreOnce}
-use Rattle.pe_frames.proofs.Nodes.{same_handle-Decides, same_or_other}
+use Rattle.pe_frames.proofs.Nodes.{has-push, same_handle-Decides, same_or_other}
 use Rattle.pe_frames.proofs.Writes.{map-set_same, different, SameMarks-refl, SameMarks-then}
-
-has-push : (k h : Handle) (hs : List Handle) → has_handle k (hs ++ h ∷ []) ≡ (has_handle k hs || same_handle h k)
-has-push k h [] = or_none (same_handle h k)
-  where
-    or_none : (b : Bool) → (b || false) ≡ (false || b)
-    or_none true = refl
-    or_none false = refl
-has-push k h (x ∷ hs) = ap (λ b. same_handle x k || b) (has-push k h hs) ∙ regroup (same_handle x k) (has_handle k hs) (same_handle h k)
-  where
-    regroup : (a b c : Bool) → (a || (b || c)) ≡ ((a || b) || c)
-    regroup true b c = refl
-    regroup false b c = refl
 
 swept-known : (p : Handle → Bool) (k : Handle) (hs : List Handle) → has_handle k (filter p hs) ≡ true → has_handle k hs ≡ true
 swept-known p k [] e = e

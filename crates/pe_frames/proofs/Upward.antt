@@ -5,24 +5,12 @@ use Rattle.std.specs.Option.{option_map, option_and_then}
 use Rattle.pe_arena.specs.declared.handle.Handle.{Handle}
 use Rattle.pe_frames.specs.Forest.{Entry, same_handle, has_handle, last_of, path, parent_of, entry_of, is_under, path_of}
 use Rattle.pe_frames.specs.Kept.{Kept, above_in, entry_in, entries_in, AreNodes, AreApart}
-use Rattle.pe_frames.proofs.Nodes.{same_handle-Decides, same_or_other}
+use Rattle.pe_frames.proofs.Nodes.{has-push, same_handle-Decides, same_or_other}
 use Rattle.pe_frames.proofs.Pages.{Above, above-of, nothing, below, entry-absent, not_same}
 use Rattle.pe_frames.proofs.Below.{last-push, entry-handle}
 
 some_same : {A : Type 0} {a b : A} → Some a ≡ Some b → a ≡ b
 some_same q = cc
-
-has-push : (k h : Handle) (hs : List Handle) → has_handle k (hs ++ h ∷ []) ≡ (has_handle k hs || same_handle h k)
-has-push k h [] = or_none (same_handle h k)
-  where
-    or_none : (b : Bool) → (b || false) ≡ (false || b)
-    or_none true = refl
-    or_none false = refl
-has-push k h (x ∷ hs) = ap (λ b. same_handle x k || b) (has-push k h hs) ∙ regroup (same_handle x k) (has_handle k hs) (same_handle h k)
-  where
-    regroup : (a b c : Bool) → (a || (b || c)) ≡ ((a || b) || c)
-    regroup true b c = refl
-    regroup false b c = refl
 
 no_last : (ks : List Handle) → last_of ks ≡ None → ks ≡ []
 no_last [] q = refl
