@@ -13,3 +13,4 @@ pub mod Topped
 pub mod Upward
 pub mod Writes
 pub mod Written
+pub mod Without
