@@ -77,7 +77,7 @@ once-push (x ∷ ks) k once e =
     let parts = neither_of (same_handle x k) (has_handle k ks) e in
     (has-push x k ks ∙ or_false (has_handle x ks) (same_handle k x) once.0 (same-turn x k parts.0), once-push ks k once.1 parts.1)
 
-once-turned : (ks : List Handle) → AreOnce ks → AreOnce (turned ks)
+pub once-turned : (ks : List Handle) → AreOnce ks → AreOnce (turned ks)
 once-turned [] once = tt
 once-turned (k ∷ ks) once = once-push (turned ks) k (once-turned ks once.1) (has-turned k ks ∙ once.0)
 

@@ -1,5 +1,6 @@
 pub mod Below
 pub mod Children
+pub mod Climbing
 pub mod Embedded
 pub mod Kin
 pub mod Linked
@@ -9,8 +10,13 @@ pub mod Pages
 pub mod Removed
 pub mod Sizes
 pub mod Standings
+pub mod Subtrees
 pub mod Topped
+pub mod Tree
+pub mod TreeOrder
+pub mod Under
 pub mod Upward
+pub mod Walking
+pub mod Without
 pub mod Writes
 pub mod Written
-pub mod Without
