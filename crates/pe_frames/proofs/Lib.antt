@@ -1,6 +1,7 @@
 pub mod Below
 pub mod Children
 pub mod Climbing
+pub mod Cuts
 pub mod Embedded
 pub mod Kin
 pub mod Linked

@@ -176,37 +176,34 @@ abbrev pub without : Handle → List Handle → List Handle
 without h ks = filter (λ k. not (same_handle k h)) ks
 
 module _ (h : Handle) (ks : List Handle) (once : AreOnce ks) (has : has_handle h ks ≡ true) where
-  parts : Parts h ks
-  parts = parts-of h ks has
-
   once-parts : AreOnce ((parts-of h ks has).front ++ h ∷ (parts-of h ks has).back)
-  once-parts = subst AreOnce parts.is once
+  once-parts = subst AreOnce (parts-of h ks has).is once
 
   is-without : without h ks ≡ (parts-of h ks has).front ++ (parts-of h ks has).back
-  is-without = ap (without h) parts.is ∙ filter-part h parts.front parts.back once-parts
+  is-without = ap (without h) (parts-of h ks has).is ∙ filter-part h (parts-of h ks has).front (parts-of h ks has).back once-parts
 
   is-before : before h ks ≡ last_of (parts-of h ks has).front
-  is-before = ap (before h) parts.is ∙ before-part h parts.front parts.back once-parts
+  is-before = ap (before h) (parts-of h ks has).is ∙ before-part h (parts-of h ks has).front (parts-of h ks has).back once-parts
 
   is-after : after h ks ≡ head_of (parts-of h ks has).back
-  is-after = ap (after h) parts.is ∙ after-part h parts.front parts.back once-parts
+  is-after = ap (after h) (parts-of h ks has).is ∙ after-part h (parts-of h ks has).front (parts-of h ks has).back once-parts
 
   pub head-without : head_of (without h ks) ≡ cond (is_none (before h ks)) (after h ks) (head_of ks)
   head-without =
-      ap head_of is-without ∙ head-part h parts.front parts.back
-      ∙ (λ i. cond (is_none (sym is-before i)) (sym is-after i) (head_of (sym parts.is i)))
+      ap head_of is-without ∙ head-part h (parts-of h ks has).front (parts-of h ks has).back
+      ∙ (λ i. cond (is_none (sym is-before i)) (sym is-after i) (head_of (sym (parts-of h ks has).is i)))
 
   pub last-without : last_of (without h ks) ≡ cond (is_none (after h ks)) (before h ks) (last_of ks)
   last-without =
-      ap last_of is-without ∙ last-part h parts.front parts.back
-      ∙ (λ i. cond (is_none (sym is-after i)) (sym is-before i) (last_of (sym parts.is i)))
+      ap last_of is-without ∙ last-part h (parts-of h ks has).front (parts-of h ks has).back
+      ∙ (λ i. cond (is_none (sym is-after i)) (sym is-before i) (last_of (sym (parts-of h ks has).is i)))
 
   pub after-without : (k : Handle) → same_handle h k ≡ false → after k (without h ks) ≡ cond (is_named (before h ks) k) (after h ks) (after k ks)
   after-without k ne =
-      ap (after k) is-without ∙ after-other h k parts.front parts.back once-parts ne
-      ∙ (λ i. cond (is_named (sym is-before i) k) (sym is-after i) (after k (sym parts.is i)))
+      ap (after k) is-without ∙ after-other h k (parts-of h ks has).front (parts-of h ks has).back once-parts ne
+      ∙ (λ i. cond (is_named (sym is-before i) k) (sym is-after i) (after k (sym (parts-of h ks has).is i)))
 
   pub before-without : (k : Handle) → same_handle h k ≡ false → before k (without h ks) ≡ cond (is_named (after h ks) k) (before h ks) (before k ks)
   before-without k ne =
-      ap (before k) is-without ∙ before-other h k parts.front parts.back once-parts ne
-      ∙ (λ i. cond (is_named (sym is-after i) k) (sym is-before i) (before k (sym parts.is i)))
+      ap (before k) is-without ∙ before-other h k (parts-of h ks has).front (parts-of h ks has).back once-parts ne
+      ∙ (λ i. cond (is_named (sym is-after i) k) (sym is-before i) (before k (sym (parts-of h ks has).is i)))
