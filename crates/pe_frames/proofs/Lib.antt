@@ -18,6 +18,7 @@ pub mod TreeOrder
 pub mod Under
 pub mod Upward
 pub mod Walking
+pub mod Within
 pub mod Without
 pub mod Writes
 pub mod Written
