@@ -16,6 +16,7 @@ pub mod Topped
 pub mod Tree
 pub mod TreeOrder
 pub mod Under
+pub mod Unlinked
 pub mod Upward
 pub mod Walking
 pub mod Within

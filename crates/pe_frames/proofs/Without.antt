@@ -70,17 +70,17 @@ once-head h a xs ys once =
     (neither (same_handle h a) (has_handle a ys) parts.1).1
 
 -- without the handle
-filter-none : (h : Handle) (ks : List Handle) → has_handle h ks ≡ false → filter (λ k. not (same_handle k h)) ks ≡ ks
-filter-none h [] e = refl
-filter-none h (k ∷ ks) e =
+pub without-absent : (h : Handle) (ks : List Handle) → has_handle h ks ≡ false → filter (λ k. not (same_handle k h)) ks ≡ ks
+without-absent h [] e = refl
+without-absent h (k ∷ ks) e =
     let parts = neither (same_handle k h) (has_handle h ks) e in
     ap (λ b. cond (not b) (k ∷ filter (λ x. not (same_handle x h)) ks) (filter (λ x. not (same_handle x h)) ks)) parts.0
-    ∙ ap (λ x. k ∷ x) (filter-none h ks parts.1)
+    ∙ ap (λ x. k ∷ x) (without-absent h ks parts.1)
 
 filter-part : (h : Handle) (xs ys : List Handle) → AreOnce (xs ++ h ∷ ys) → filter (λ k. not (same_handle k h)) (xs ++ h ∷ ys) ≡ xs ++ ys
 filter-part h [] ys once =
     ap (λ b. cond (not b) (h ∷ filter (λ x. not (same_handle x h)) ys) (filter (λ x. not (same_handle x h)) ys)) (same-itself h)
-    ∙ filter-none h ys once.0
+    ∙ without-absent h ys once.0
 filter-part h (a ∷ xs) ys once =
     ap (λ b. cond (not b) (a ∷ filter (λ x. not (same_handle x h)) (xs ++ h ∷ ys)) (filter (λ x. not (same_handle x h)) (xs ++ h ∷ ys))) (neither (same_handle a h) (has_handle h xs) (once-front h (a ∷ xs) ys once)).0
     ∙ ap (λ x. a ∷ x) (filter-part h xs ys once.1)
