@@ -246,12 +246,12 @@ module _ {D : Type 0} where
     pub same : SameMarks s t
 
   -- a live frame of a node
-  record FrameOf (o : Option (Entry D)) (n : Node D) : Type 0 where
-    entry : Entry D
-    found : o ≡ Some entry
-    node : node_in entry ≡ n
+  pub record FrameOf (o : Option (Entry D)) (n : Node D) : Type 0 where
+    pub entry : Entry D
+    pub found : o ≡ Some entry
+    pub node : node_in entry ≡ n
 
-  frame-of : (o : Option (Entry D)) (n : Node D) → option_map node_in o ≡ Some n → FrameOf o n
+  pub frame-of : (o : Option (Entry D)) (n : Node D) → option_map node_in o ≡ Some n → FrameOf o n
   frame-of None n e = absurd (true≢false (sym (ap is_some e)))
   frame-of (Some x) n e = record { entry = x; found = refl; node = some_same e }
 

@@ -4,6 +4,7 @@ pub mod Climbing
 pub mod Cuts
 pub mod Embedded
 pub mod Kin
+pub mod Leaving
 pub mod Linked
 pub mod Nodes
 pub mod Opened

@@ -207,3 +207,10 @@ module _ (h : Handle) (ks : List Handle) (once : AreOnce ks) (has : has_handle h
   before-without k ne =
       ap (before k) is-without ∙ before-other h k (parts-of h ks has).front (parts-of h ks has).back once-parts ne
       ∙ (λ i. cond (is_named (sym is-after i) k) (sym is-before i) (before k (sym (parts-of h ks has).is i)))
+
+  -- it is no neighbour of its own
+  pub after-itself : is_named (after h ks) h ≡ false
+  after-itself = ap (λ o. is_named o h) is-after ∙ head-absent h (parts-of h ks has).back (once-back h (parts-of h ks has).front (parts-of h ks has).back once-parts)
+
+  pub before-itself : is_named (before h ks) h ≡ false
+  before-itself = ap (λ o. is_named o h) is-before ∙ last-not h (parts-of h ks has).front (once-front h (parts-of h ks has).front (parts-of h ks has).back once-parts)
