@@ -1,7 +1,9 @@
 pub mod Below
 pub mod Children
 pub mod Climbing
+pub mod Closed
 pub mod Cuts
+pub mod Documents
 pub mod Embedded
 pub mod Kin
 pub mod Leaving

@@ -35,7 +35,7 @@ head-has : (j : Handle) (ks : List Handle) → is_named (head_of ks) j ≡ true 
 head-has j [] e = absurd (true≢false (sym e))
 head-has j (k ∷ ks) e = ap (λ b. b || has_handle j ks) e
 
-before-has : (h k : Handle) (ks : List Handle) → is_named (before h ks) k ≡ true → has_handle k ks ≡ true
+pub before-has : (h k : Handle) (ks : List Handle) → is_named (before h ks) k ≡ true → has_handle k ks ≡ true
 before-has h k [] e = absurd (true≢false (sym e))
 before-has h k (a ∷ ks) e = by_test (is_named (head_of ks) h) e (λ q. before-has h k ks q)
   where
@@ -43,7 +43,7 @@ before-has h k (a ∷ ks) e = by_test (is_named (head_of ks) h) e (λ q. before-
     by_test true q rest = ap (λ b. b || has_handle k ks) q
     by_test false q rest = ap (λ b. same_handle a k || b) (rest q) ∙ or_true (same_handle a k)
 
-after-has : (h k : Handle) (ks : List Handle) → is_named (after h ks) k ≡ true → has_handle k ks ≡ true
+pub after-has : (h k : Handle) (ks : List Handle) → is_named (after h ks) k ≡ true → has_handle k ks ≡ true
 after-has h k [] e = absurd (true≢false (sym e))
 after-has h k (a ∷ ks) e = by_test (same_handle a h) e (λ q. after-has h k ks q)
   where
@@ -131,7 +131,7 @@ module _ {D : Type 0} where
         let same : node_in x ≡ b.node = some_same (sym (ap (option_map node_in) f) ∙ entries-nodes xs k are ∙ b.found) in
         ap (λ (n : Node D). n.parent) same ∙ b.parent
 
-    siblings-once : (o : Option Handle) → AreOnce (siblings (entries_in xs) o)
+    pub siblings-once : (o : Option Handle) → AreOnce (siblings (entries_in xs) o)
     siblings-once None = tt
     siblings-once (Some q) = children-once xs are apart q
 

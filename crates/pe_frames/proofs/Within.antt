@@ -69,7 +69,7 @@ module _ {D : Type 0} where
       by_test false f rest = rest
 
   module _ (es : List (Entry D)) (tree : IsTree es DEPTH_LIMIT) (h : Handle) (e : Entry D) (found : entry_of es h ≡ Some e) where
-    embedder-of : (k : Handle) (x : Entry D) (p : Handle) → entry_of es k ≡ Some x → parent_of x ≡ Some p → IsParent es p x
+    pub embedder-of : (k : Handle) (x : Entry D) (p : Handle) → entry_of es k ≡ Some x → parent_of x ≡ Some p → IsParent es p x
     embedder-of k x p f q = tree.parent p x (record { found = its-own es k x f; parent = q })
 
     -- the handle of a live frame goes with the subtree where the frame is within it
