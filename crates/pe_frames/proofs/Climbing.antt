@@ -1,21 +1,21 @@
 -- The way up from a frame to the root, and what stands behind the frame meanwhile.
-use Rattle.std.proofs.Common.{◌≡◌, ◌⊎◌, inl, inr, ℕ, ◌+◌, ◌<◌, ◌≤◌, Bool, true, false, not, cond, ◌||◌, List, [], ◌∷◌, ◌++◌, length, length-append, append_assoc, Option, None, Some, IsSome, is_some, refl, sym, ap, subst, ◌∙◌, arith, true≢false}
+use Rattle.std.proofs.Common.{◌≡◌, ◌<◌, Bool, true, false, not, ◌||◌, List, [], ◌∷◌, ◌++◌, length, length-append, append_assoc, Option, None, Some, IsSome, is_some, refl, sym, ap, subst, ◌∙◌, arith, true≢false}
 use Rattle.std.specs.Prelude.{unwrap_or, IsSomeAnd, IsTrue}
 use Rattle.std.specs.Option.{option_and_then, option_map}
 use Rattle.pe_base.specs.declared.limits.TheConstants.{DEPTH_LIMIT}
 use Rattle.pe_arena.specs.declared.handle.Handle.{Handle}
 use Rattle.pe_frames.specs.declared.row.Standing.{Standing}
-use Rattle.pe_frames.specs.Forest.{Entry, same_handle, has_handle, first_of, last_of, top_of, path, path_of, parent_of, entry_of, is_under}
-use Rattle.pe_frames.specs.Order.{head_of, after, child_handles, handles_under}
-use Rattle.pe_frames.specs.Links.{before, siblings, young}
+use Rattle.pe_frames.specs.Forest.{Entry, same_handle, has_handle, last_of, path, path_of, parent_of, entry_of, is_under}
+use Rattle.pe_frames.specs.Order.{head_of, after, children, child_handles, handles_under}
+use Rattle.pe_frames.specs.Links.{before, siblings}
 use Rattle.pe_frames.specs.Kept.{AreOnce, standing_in}
-use Rattle.pe_frames.proofs.Nodes.{same_handle-Decides, same_or_other}
+use Rattle.pe_frames.proofs.Nodes.{same_handle-Decides}
 use Rattle.pe_frames.proofs.Pages.{not_same}
-use Rattle.pe_frames.proofs.Below.{entry-handle, last-push}
+use Rattle.pe_frames.proofs.Below.{entry-handle}
 use Rattle.pe_frames.proofs.Children.{after-absent, first-child, later-child}
 use Rattle.pe_frames.proofs.Standings.{StandsAt}
 use Rattle.pe_frames.proofs.Tree.{IsParent, IsTree}
-use Rattle.pe_frames.proofs.TreeOrder.{walk, has-append}
+use Rattle.pe_frames.proofs.TreeOrder.{walk, walks, walk-is, has-append}
 use Rattle.pe_frames.proofs.Subtrees.{IsUp, up-of, root-live, under-same, under-other}
 use Rattle.pe_frames.proofs.Under.{IsUnder, handles-are, handles-live, handles-once, its-own}
 use Rattle.pe_frames.proofs.Walking.{after-split, beyond, beyond-root, beyond-later, beyond-none, next-first, next-none}
@@ -71,17 +71,13 @@ module _ {D : Type 0} where
       no_last [] e = refl
       no_last (x ∷ ks) e = absurd cc
 
-  -- the top frame of a live frame is above it
-  pub within-first : (es : List (Entry D)) (root k : Handle) → option_map top_of (entry_of es k) ≡ Some root → IsWithin es root k
-  within-first es root k q = by_entry (entry_of es k) refl q
-    where
-      first-has : (ks : List Handle) (h : Handle) → has_handle (first_of ks h) (ks ++ h ∷ []) ≡ true
-      first-has [] h = ap (λ b. b || false) ((same_handle-Decides h h).1 refl)
-      first-has (x ∷ ks) h = ap (λ b. b || has_handle x (ks ++ h ∷ [])) ((same_handle-Decides x x).1 refl)
+  -- what is within the root is live
+  pub within-dead : (es : List (Entry D)) (root k : Handle) → IsWithin es root k → entry_of es k ≡ None → ⊥
+  within-dead es root k w q = let u = within-entry es root k w in true≢false (sym (ap is_some u.found) ∙ ap is_some q)
 
-      by_entry : (o : Option (Entry D)) → entry_of es k ≡ o → option_map top_of o ≡ Some root → IsSomeAnd o (λ e. IsTrue (is_under root e))
-      by_entry None f p = absurd cc
-      by_entry (Some e) f p = ap (λ j. has_handle j (path e)) (sym (some_same p)) ∙ first-has e.above e.handle
+  -- the parent of where a frame stands
+  pub parent-stands : (es : List (Entry D)) (k : Handle) (here : Standing) → StandsAt es k here → option_and_then parent_of (entry_of es k) ≡ here.parent
+  parent-stands es k here at = ap (option_and_then parent_of) at.found ∙ sym (ap (λ x. x.parent) at.is)
 
   -- a live frame and its parent
   record Steps (es : List (Entry D)) (k p : Handle) : Type 0 where
@@ -145,7 +141,7 @@ module _ {D : Type 0} where
     within : (root k : Handle) → IsWithin es root k → Within root k
     within root k w =
         let u = within-entry es root k w in
-        let at = root-live es DEPTH_LIMIT tree root (length u.entry.above) u.entry (its-own es k u.entry u.found) (omega arith) u.under in
+        let at = root-live es DEPTH_LIMIT tree root u.entry (its-own es k u.entry u.found) u.under in
         let named = entry-handle es root at.entry at.found in
         record {
           top = at.entry;
@@ -239,12 +235,13 @@ module _ {D : Type 0} where
             ∙ next-first es DEPTH_LIMIT tree DEPTH_LIMIT (omega arith) i.top i.own i.under.entry (its-own es k i.under.entry i.under.found) i.under.under c first)
 
     -- where there is none, what is past the frame
-    pub follows-past : (root k : Handle) (here : Standing) → IsWithin es root k → StandsAt es k here → is_some here.links.first ≡ false → past_of es root k ≡ after k (handles_under es root)
-    follows-past root k here w at none =
+    pub follows-past : (root k : Handle) (here : Standing) → IsWithin es root k → StandsAt es k here → is_some here.links.first ≡ false → (answer : Option Handle) → answer ≡ past_of es root k → answer ≡ after k (handles_under es root)
+    follows-past root k here w at none answer p =
         let i = within root k w in
         let handle = entry-handle es k i.under.entry i.under.found in
         let first : head_of (child_handles es i.under.entry.handle) ≡ None = ap (λ j. head_of (child_handles es j)) handle ∙ first-child es k ∙ sym (ap (λ x. x.links.first) at.is) ∙ no_first here.links.first none in
-        past-is root k i.top i.under.entry i.whole i.under.found
+        p
+        ∙ past-is root k i.top i.under.entry i.whole i.under.found
         ∙ next-none es DEPTH_LIMIT tree DEPTH_LIMIT (omega arith) i.top i.own i.under.entry (its-own es k i.under.entry i.under.found) first
         ∙ ap (λ j. after j (walk DEPTH_LIMIT es i.top)) handle
         ∙ sym (ap (after k) i.whole)
@@ -252,3 +249,61 @@ module _ {D : Type 0} where
         no_first : (o : Option Handle) → is_some o ≡ false → o ≡ None
         no_first None t = refl
         no_first (Some c) t = absurd (true≢false t)
+
+  -- the handles that were listed so far begin those of the root and what is below it, and this one is their last
+  pub record IsListed (es : List (Entry D)) (root at : Handle) (below : List Handle) : Type 0 where
+    pub front : List Handle
+    pub back : List Handle
+    pub listed : root ∷ below ≡ front ++ at ∷ []
+    pub is : handles_under es root ≡ front ++ at ∷ back
+
+  module _ (es : List (Entry D)) (tree : IsTree es DEPTH_LIMIT) (root : Handle) where
+    -- the root is the first
+    pub listed-root : IsSome (entry_of es root) → IsListed es root root []
+    listed-root lives = by_entry (entry_of es root) refl lives
+      where
+        by_entry : (o : Option (Entry D)) → entry_of es root ≡ o → IsSome o → IsListed es root root []
+        by_entry None f l = absurd (true≢false (sym l))
+        by_entry (Some e) f l = record {
+          front = [];
+          back = walks DEPTH_LIMIT es (children es e.handle);
+          listed = refl;
+          is = handles-are es root e f ∙ walk-is es DEPTH_LIMIT tree DEPTH_LIMIT (omega arith) e (its-own es root e f) ∙ ap (λ k. k ∷ walks DEPTH_LIMIT es (children es e.handle)) (entry-handle es root e f);
+        }
+
+    module _ (at : Handle) (below : List Handle) (so_far : IsListed es root at below) where
+      -- the last of the listed is within the root
+      pub listed-within : IsWithin es root at
+      listed-within = within-of es root at (handles-live es tree root at (
+        ap (has_handle at) so_far.is
+        ∙ has-append at so_far.front (at ∷ so_far.back)
+        ∙ ap (λ b. has_handle at so_far.front || (b || has_handle at so_far.back)) ((same_handle-Decides at at).1 refl)
+        ∙ or_true (has_handle at so_far.front)))
+        where
+          or_true : (b : Bool) → (b || true) ≡ true
+          or_true true = refl
+          or_true false = refl
+
+      behind-listed : after at (handles_under es root) ≡ head_of so_far.back
+      behind-listed = ap (after at) so_far.is ∙ after-split so_far.front at so_far.back (subst AreOnce so_far.is (handles-once es tree root))
+
+      -- what stands behind it is listed next
+      pub listed-next : (answer : Option Handle) (next : Handle) → answer ≡ after at (handles_under es root) → answer ≡ Some next → IsListed es root next (below ++ next ∷ [])
+      listed-next answer next p q = by_back so_far.back refl (sym behind-listed ∙ sym p ∙ q)
+        where
+          by_back : (ks : List Handle) → so_far.back ≡ ks → head_of ks ≡ Some next → IsListed es root next (below ++ next ∷ [])
+          by_back [] e t = absurd cc
+          by_back (k ∷ ks) e t = record {
+            front = so_far.front ++ at ∷ [];
+            back = ks;
+            listed = ap (λ js. js ++ next ∷ []) so_far.listed;
+            is = so_far.is ∙ ap (λ js. so_far.front ++ at ∷ js) e ∙ ap (λ j. so_far.front ++ at ∷ (j ∷ ks)) (some_same t) ∙ sym (append_assoc so_far.front (at ∷ []) (next ∷ ks));
+          }
+
+      -- where nothing stands behind it, all are listed
+      pub listed-all : (answer : Option Handle) → answer ≡ after at (handles_under es root) → answer ≡ None → root ∷ below ≡ handles_under es root
+      listed-all answer p q = so_far.listed ∙ ap (λ ks. so_far.front ++ at ∷ ks) (sym (no_head so_far.back (sym behind-listed ∙ sym p ∙ q))) ∙ sym so_far.is
+        where
+          no_head : (ks : List Handle) → head_of ks ≡ None → ks ≡ []
+          no_head [] e = refl
+          no_head (k ∷ ks) e = absurd cc

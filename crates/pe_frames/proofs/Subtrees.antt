@@ -1,12 +1,12 @@
 -- Where the frames below one stand among those below another, in tree order.
-use Rattle.std.proofs.Common.{◌≡◌, inl, inr, ℕ, zero, suc, ◌+◌, ◌≤◌, Bool, true, false, cond, ◌||◌, List, [], ◌∷◌, ◌++◌, map, length, length-append, append_assoc, Option, None, Some, refl, sym, ap, subst, ◌∙◌, arith, true≢false}
+use Rattle.std.proofs.Common.{◌≡◌, inl, inr, ℕ, zero, suc, ◌≤◌, Bool, true, false, ◌||◌, List, [], ◌∷◌, ◌++◌, length, length-append, append_assoc, Some, refl, sym, ap, ◌∙◌, arith, true≢false}
 use Rattle.std.proofs.lemmas.List.{append-nil}
 use Rattle.pe_arena.specs.declared.handle.Handle.{Handle}
 use Rattle.pe_frames.specs.Forest.{Entry, same_handle, has_handle, last_of, path, parent_of, entry_of, is_under}
 use Rattle.pe_frames.specs.Order.{children}
 use Rattle.pe_frames.proofs.Nodes.{same_handle-Decides, same_or_other}
 use Rattle.pe_frames.proofs.Below.{entry-handle}
-use Rattle.pe_frames.proofs.Tree.{Splits, IsChild, IsParent, IsTree}
+use Rattle.pe_frames.proofs.Tree.{IsTree}
 use Rattle.pe_frames.proofs.TreeOrder.{walk, walks, walks-append, walk-is, has-append}
 
 some_same : {A : Type 0} {a b : A} → Some a ≡ Some b → a ≡ b
@@ -72,22 +72,27 @@ module _ {D : Type 0} where
           under = ap (has_handle root) (sym p.above) ∙ above;
         }
 
-    -- what a live frame is below is live
-    pub root-live : (root : Handle) (m : ℕ) (e : Entry D) → entry_of es e.handle ≡ Some e → length e.above ≤ m → is_under root e ≡ true → LiveAt es root
-    root-live root zero e f long under = elim (same_or_other e.handle root) as (λ _. LiveAt es root) [
-      | inl t ↦ record { entry = e; found = ap (entry_of es) (sym ((same_handle-Decides e.handle root).0 t)) ∙ f }
+    -- what holds of the root, and of a frame where it holds of its parent, holds of each frame below the root
+    climb : (root : Handle) (P : Entry D → Type 0) → ((e : Entry D) → entry_of es e.handle ≡ Some e → e.handle ≡ root → P e) → ((e : Entry D) → entry_of es e.handle ≡ Some e → (up : IsUp es root e) → P up.entry → P e)
+        → (m : ℕ) (e : Entry D) → entry_of es e.handle ≡ Some e → length e.above ≤ m → is_under root e ≡ true → P e
+    climb root P here step zero e f long under = elim (same_or_other e.handle root) as (λ _. P e) [
+      | inl t ↦ here e f ((same_handle-Decides e.handle root).0 t)
       | inr t ↦
           let up = up-of root e f under t in
           let some = ap length up.above ∙ length-append up.entry.above (up.entry.handle ∷ []) in
           absurd (omega (arith, long, some))
     ]
-    root-live root (suc m) e f long under = elim (same_or_other e.handle root) as (λ _. LiveAt es root) [
-      | inl t ↦ record { entry = e; found = ap (entry_of es) (sym ((same_handle-Decides e.handle root).0 t)) ∙ f }
+    climb root P here step (suc m) e f long under = elim (same_or_other e.handle root) as (λ _. P e) [
+      | inl t ↦ here e f ((same_handle-Decides e.handle root).0 t)
       | inr t ↦
           let up = up-of root e f under t in
           let some = ap length up.above ∙ length-append up.entry.above (up.entry.handle ∷ []) in
-          root-live root m up.entry up.found (omega (arith, long, some)) up.under
+          step e f up (climb root P here step m up.entry up.found (omega (arith, long, some)) up.under)
     ]
+
+    -- what a live frame is below is live
+    pub root-live : (root : Handle) (e : Entry D) → entry_of es e.handle ≡ Some e → is_under root e ≡ true → LiveAt es root
+    root-live root e f under = climb root (λ _. LiveAt es root) (λ x g q. record { entry = x; found = ap (entry_of es) (sym q) ∙ g }) (λ x g up live. live) (length e.above) e f (omega arith) under
 
     -- with enough levels, where the walk of a frame stands, that of its child stands in it
     pub split-below : (n : ℕ) → levels ≤ n → (root a c : Entry D) (front back : List Handle) (before behind : List (Entry D)) → entry_of es a.handle ≡ Some a → children es a.handle ≡ before ++ c ∷ behind
@@ -99,38 +104,25 @@ module _ {D : Type 0} where
         ∙ sym (append_assoc front (a.handle ∷ walks n es before) (walk n es c ++ (walks n es behind ++ back)))
 
     -- the walk of each frame below the root is a part of the root's
-    pub stands-of : (n : ℕ) → levels ≤ n → (root : Entry D) → (m : ℕ) (e : Entry D) → entry_of es root.handle ≡ Some root → entry_of es e.handle ≡ Some e → length e.above ≤ m → is_under root.handle e ≡ true → Stands es n root e
-    stands-of n enough root zero e g f long under = elim (same_or_other e.handle root.handle) as (λ _. Stands es n root e) [
-      | inl t ↦ same_stands t
-      | inr t ↦
-          let up = up-of root.handle e f under t in
-          let some = ap length up.above ∙ length-append up.entry.above (up.entry.handle ∷ []) in
-          absurd (omega (arith, long, some))
-    ]
+    pub stands-of : (n : ℕ) → levels ≤ n → (root e : Entry D) → entry_of es root.handle ≡ Some root → entry_of es e.handle ≡ Some e → is_under root.handle e ≡ true → Stands es n root e
+    stands-of n enough root e g f under = climb root.handle (λ x. Stands es n root x) here step (length e.above) e f (omega arith) under
       where
-        same_stands : same_handle e.handle root.handle ≡ true → Stands es n root e
-        same_stands t = record { front = []; back = []; is = ap (walk n es) (some_same (sym g ∙ ap (entry_of es) (sym ((same_handle-Decides e.handle root.handle).0 t)) ∙ f)) ∙ sym (append-nil (walk n es e)) }
-    stands-of n enough root (suc m) e g f long under = elim (same_or_other e.handle root.handle) as (λ _. Stands es n root e) [
-      | inl t ↦ same_stands t
-      | inr t ↦
-          let up = up-of root.handle e f under t in
-          let some = ap length up.above ∙ length-append up.entry.above (up.entry.handle ∷ []) in
-          let at = stands-of n enough root m up.entry g up.found (omega (arith, long, some)) up.under in
-          let among = tree.listed up.entry.handle e (record { found = f; parent = up.parent }) in
-          record {
-            front = at.front ++ up.entry.handle ∷ walks n es among.front;
-            back = walks n es among.back ++ at.back;
-            is = split-below n enough root up.entry e at.front at.back among.front among.back up.found among.is at.is;
-          }
-    ]
-      where
-        same_stands : same_handle e.handle root.handle ≡ true → Stands es n root e
-        same_stands t = record { front = []; back = []; is = ap (walk n es) (some_same (sym g ∙ ap (entry_of es) (sym ((same_handle-Decides e.handle root.handle).0 t)) ∙ f)) ∙ sym (append-nil (walk n es e)) }
+        here : (x : Entry D) → entry_of es x.handle ≡ Some x → x.handle ≡ root.handle → Stands es n root x
+        here x h q = record { front = []; back = []; is = ap (walk n es) (some_same (sym g ∙ ap (entry_of es) (sym q) ∙ h)) ∙ sym (append-nil (walk n es x)) }
+
+        step : (x : Entry D) → entry_of es x.handle ≡ Some x → (up : IsUp es root.handle x) → Stands es n root up.entry → Stands es n root x
+        step x h up at =
+            let among = tree.listed up.entry.handle x (record { found = h; parent = up.parent }) in
+            record {
+              front = at.front ++ up.entry.handle ∷ walks n es among.front;
+              back = walks n es among.back ++ at.back;
+              is = split-below n enough root up.entry x at.front at.back among.front among.back up.found among.is at.is;
+            }
 
     -- each frame below the root is in its walk
     pub walk-all : (n : ℕ) → levels ≤ n → (root e : Entry D) → entry_of es root.handle ≡ Some root → entry_of es e.handle ≡ Some e → is_under root.handle e ≡ true → has_handle e.handle (walk n es root) ≡ true
     walk-all n enough root e g f under =
-        let at = stands-of n enough root (length e.above) e g f (omega arith) under in
+        let at = stands-of n enough root e g f under in
         ap (has_handle e.handle) (at.is ∙ ap (λ ks. at.front ++ (ks ++ at.back)) (walk-is es levels tree n enough e f))
         ∙ has-append e.handle at.front (e.handle ∷ (walks n es (children es e.handle) ++ at.back))
         ∙ ap (λ b. has_handle e.handle at.front || (b || has_handle e.handle (walks n es (children es e.handle) ++ at.back))) ((same_handle-Decides e.handle e.handle).1 refl)

@@ -1,8 +1,8 @@
 -- The list of frames as a tree: parents, children and depths, with nothing of how it is kept.
-use Rattle.std.proofs.Common.{◌≡◌, ◌⊎◌, inl, inr, ℕ, ◌+◌, ◌≤◌, Bool, true, false, cond, ◌||◌, List, [], ◌∷◌, ◌++◌, length, append_assoc, Option, None, Some, is_some, refl, sym, ap, subst, ◌∙◌, true≢false}
+use Rattle.std.proofs.Common.{◌≡◌, ◌⊎◌, inl, inr, ℕ, ◌≤◌, Bool, true, false, cond, List, [], ◌∷◌, ◌++◌, length, append_assoc, Option, None, Some, is_some, refl, sym, ap, subst, ◌∙◌, true≢false}
 use Rattle.std.specs.Prelude.{⊤}
 use Rattle.pe_arena.specs.declared.handle.Handle.{Handle}
-use Rattle.pe_frames.specs.Forest.{Entry, same_handle, has_handle, last_of, path, parent_of, entry_of}
+use Rattle.pe_frames.specs.Forest.{Entry, same_handle, last_of, path, parent_of, entry_of}
 use Rattle.pe_frames.specs.Order.{is_named, is_child, children, child_handles}
 use Rattle.pe_frames.specs.Links.{young}
 use Rattle.pe_frames.specs.Kept.{Kept, node_at, above_in, entry_in, entries_in, AreNodes, AreApart, AreOnce}

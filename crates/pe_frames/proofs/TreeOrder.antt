@@ -1,14 +1,14 @@
 -- The frames below another, in tree order: they are live, they stand below it, and none stands there twice.
-use Rattle.std.proofs.Common.{◌≡◌, ◌⊎◌, inl, inr, ℕ, zero, suc, ◌+◌, ◌≤◌, Bool, true, false, cond, ◌||◌, List, [], ◌∷◌, ◌++◌, map, length, length-append, append_assoc, Option, None, Some, is_some, refl, sym, ap, subst, ◌∙◌, arith, true≢false}
+use Rattle.std.proofs.Common.{◌≡◌, ◌⊎◌, inl, inr, ℕ, zero, suc, ◌+◌, ◌≤◌, Bool, true, false, ◌||◌, List, [], ◌∷◌, ◌++◌, map, length, length-append, append_assoc, Some, refl, sym, ap, subst, ◌∙◌, arith, true≢false}
 use Rattle.std.specs.List.{flat_map}
 use Rattle.std.proofs.lemmas.List.{append-nil, append_cancel_left, map-append}
 use Rattle.pe_arena.specs.declared.handle.Handle.{Handle}
 use Rattle.pe_frames.specs.Forest.{Entry, same_handle, has_handle, path, entry_of}
-use Rattle.pe_frames.specs.Order.{children, child_handles, tree_order}
+use Rattle.pe_frames.specs.Order.{children, tree_order}
 use Rattle.pe_frames.specs.Kept.{AreOnce}
 use Rattle.pe_frames.proofs.Nodes.{same_handle-Decides}
 use Rattle.pe_frames.proofs.Pages.{not_same}
-use Rattle.pe_frames.proofs.Tree.{Each, each-append, each-map, IsChild, IsParent, IsTree}
+use Rattle.pe_frames.proofs.Tree.{Each, each-append, each-map, IsChild, IsTree}
 
 some_same : {A : Type 0} {a b : A} → Some a ≡ Some b → a ≡ b
 some_same q = cc
@@ -19,10 +19,6 @@ either false b e = inr e
 
 or_false : (a b : Bool) → a ≡ false → b ≡ false → (a || b) ≡ false
 or_false a b p q = ap (λ x. x || b) p ∙ q
-
-neither : (a b : Bool) → (a || b) ≡ false → (a ≡ false) × (b ≡ false)
-neither true b e = absurd (true≢false e)
-neither false b e = (refl, e)
 
 pub has-append : (k : Handle) (a b : List Handle) → has_handle k (a ++ b) ≡ (has_handle k a || has_handle k b)
 has-append k [] b = refl

@@ -1,13 +1,13 @@
 -- The handles of a frame and those below it: each is of a live frame below it, all these are there, and none is there twice.
-use Rattle.std.proofs.Common.{◌≡◌, ℕ, ◌+◌, ◌≤◌, true, false, ◌||◌, List, [], ◌∷◌, ◌++◌, map, length, Option, None, Some, is_some, refl, sym, ap, subst, ◌∙◌, arith, true≢false}
+use Rattle.std.proofs.Common.{◌≡◌, ℕ, true, ◌||◌, List, [], Option, None, Some, refl, sym, ap, subst, ◌∙◌, arith, true≢false}
 use Rattle.std.specs.Option.{option_map}
 use Rattle.pe_base.specs.declared.limits.TheConstants.{DEPTH_LIMIT}
 use Rattle.pe_arena.specs.declared.handle.Handle.{Handle}
 use Rattle.pe_arena.specs.Slots.{Slots}
 use Rattle.pe_frames.specs.declared.row.Row.{Row}
-use Rattle.pe_frames.specs.Forest.{Entry, has_handle, path, entry_of, node_in, is_under}
-use Rattle.pe_frames.specs.Order.{tree_order, in_tree_order, handles_under}
-use Rattle.pe_frames.specs.Kept.{kept, shown, entries_in, IsForest, AreOnce}
+use Rattle.pe_frames.specs.Forest.{Entry, Forest, has_handle, path, entry_of, node_in, is_under}
+use Rattle.pe_frames.specs.Order.{in_tree_order, handles_under}
+use Rattle.pe_frames.specs.Kept.{kept, entries_in, forest_in, IsForest, AreOnce}
 use Rattle.pe_frames.proofs.Nodes.{same_handle-Decides, found-live}
 use Rattle.pe_frames.proofs.Below.{entry-handle}
 use Rattle.pe_frames.proofs.Tree.{Each, IsTree, tree-of}
@@ -20,6 +20,10 @@ module _ {D : Type 0} where
   tree-forest s order pages is = tree-of (kept s order []) DEPTH_LIMIT is.nodes is.apart (λ c f.
       let deep = is.shallow c.handle (node_in c) (found-live s order c.handle is.listed is.nodes ∙ ap (option_map node_in) f) in
       omega (arith, deep))
+
+  -- and so are those that contracts see
+  pub tree-seen : (s : Slots (Row D)) (order : List Handle) (pages : ℕ) → IsForest s order pages → (f : Forest D) → forest_in s order ≡ f → IsTree f.entries DEPTH_LIMIT
+  tree-seen s order pages is f q = subst (λ (x : Forest D). IsTree x.entries DEPTH_LIMIT) q (tree-forest s order pages is)
 
   -- the live frame of the handle is the root or below it
   pub record IsUnder (es : List (Entry D)) (root k : Handle) : Type 0 where

@@ -1,20 +1,16 @@
 -- What stands directly behind a frame in tree order, and what behind all below it.
-use Rattle.std.proofs.Common.{◌≡◌, ◌⊎◌, inl, inr, ℕ, zero, suc, ◌+◌, ◌≤◌, Bool, true, false, cond, ◌||◌, List, [], ◌∷◌, ◌++◌, map, length, append_assoc, Option, None, Some, refl, sym, ap, subst, ◌∙◌, arith, true≢false}
+use Rattle.std.proofs.Common.{◌≡◌, ℕ, zero, suc, ◌≤◌, Bool, true, false, cond, ◌||◌, List, [], ◌∷◌, ◌++◌, map, append_assoc, Option, None, Some, refl, sym, ap, subst, ◌∙◌, true≢false}
 use Rattle.std.specs.Prelude.{unwrap_or}
 use Rattle.std.proofs.lemmas.List.{append-nil, map-append}
-use Rattle.pe_base.specs.declared.limits.TheConstants.{DEPTH_LIMIT}
 use Rattle.pe_arena.specs.declared.handle.Handle.{Handle}
-use Rattle.pe_frames.specs.Forest.{Entry, same_handle, has_handle, last_of, path, parent_of, entry_of, is_under}
-use Rattle.pe_frames.specs.Order.{head_of, after, children, child_handles, tree_order, handles_under}
+use Rattle.pe_frames.specs.Forest.{Entry, same_handle, has_handle, last_of, entry_of, is_under}
+use Rattle.pe_frames.specs.Order.{head_of, after, children, child_handles}
 use Rattle.pe_frames.specs.Kept.{AreOnce}
 use Rattle.pe_frames.proofs.Nodes.{same_handle-Decides}
 use Rattle.pe_frames.proofs.Pages.{not_same}
-use Rattle.pe_frames.proofs.Below.{entry-handle}
-use Rattle.pe_frames.proofs.Children.{after-absent}
 use Rattle.pe_frames.proofs.Tree.{IsTree}
 use Rattle.pe_frames.proofs.TreeOrder.{walk, walks, walk-is, walk-once, walk-zero, walk-suc, has-append}
-use Rattle.pe_frames.proofs.Subtrees.{IsUp, up-of, split-below, stands-of}
-use Rattle.pe_frames.proofs.Under.{IsUnder, handles-are, handles-live, its-own}
+use Rattle.pe_frames.proofs.Subtrees.{IsUp, split-below, stands-of}
 
 -- what stands directly behind a handle that stands once
 pub after-split : (front : List Handle) (k : Handle) (back : List Handle) → AreOnce (front ++ k ∷ back) → after k (front ++ k ∷ back) ≡ head_of back
@@ -79,7 +75,7 @@ module _ {D : Type 0} where
     -- the first child stands behind the frame
     pub next-first : (e : Entry D) → entry_of es e.handle ≡ Some e → is_under root.handle e ≡ true → (c : Handle) → head_of (child_handles es e.handle) ≡ Some c → after e.handle (walk n es root) ≡ Some c
     next-first e f under c q =
-        let at = stands-of es levels tree n enough root (length e.above) e lives f (omega arith) under in
+        let at = stands-of es levels tree n enough root e lives f under in
         let whole : walk n es root ≡ at.front ++ e.handle ∷ (walks n es (children es e.handle) ++ at.back) = at.is ∙ ap (λ ks. at.front ++ (ks ++ at.back)) (walk-is es levels tree n enough e f) in
         ap (after e.handle) whole
         ∙ after-split at.front e.handle (walks n es (children es e.handle) ++ at.back) (subst AreOnce whole (walk-once es levels tree n root lives))
@@ -92,7 +88,7 @@ module _ {D : Type 0} where
     -- the later sibling is behind the frame and all below it
     pub beyond-later : (e : Entry D) → entry_of es e.handle ≡ Some e → (up : IsUp es root.handle e) → (c : Handle) → after e.handle (child_handles es up.entry.handle) ≡ Some c → beyond n es root e ≡ Some c
     beyond-later e f up c q =
-        let at = stands-of es levels tree n enough root (length up.entry.above) up.entry lives up.found (omega arith) up.under in
+        let at = stands-of es levels tree n enough root up.entry lives up.found up.under in
         let among = tree.listed up.entry.handle e (record { found = f; parent = up.parent }) in
         beyond-split e f (at.front ++ up.entry.handle ∷ walks n es among.front) (walks n es among.back ++ at.back) (split-below es levels tree n enough root up.entry e at.front at.back among.front among.back up.found among.is at.is)
         ∙ head-walks n es among.back at.back c (sym (behind-child up.entry.handle e among.front among.back among.is) ∙ q)
@@ -100,7 +96,7 @@ module _ {D : Type 0} where
     -- and where there is none, what is behind all below the parent
     pub beyond-none : (e : Entry D) → entry_of es e.handle ≡ Some e → (up : IsUp es root.handle e) → after e.handle (child_handles es up.entry.handle) ≡ None → beyond n es root e ≡ beyond n es root up.entry
     beyond-none e f up q =
-        let at = stands-of es levels tree n enough root (length up.entry.above) up.entry lives up.found (omega arith) up.under in
+        let at = stands-of es levels tree n enough root up.entry lives up.found up.under in
         let among = tree.listed up.entry.handle e (record { found = f; parent = up.parent }) in
         beyond-split e f (at.front ++ up.entry.handle ∷ walks n es among.front) (walks n es among.back ++ at.back) (split-below es levels tree n enough root up.entry e at.front at.back among.front among.back up.found among.is at.is)
         ∙ ap (λ ks. head_of (ks ++ at.back)) (no-walks n es among.back (sym (behind-child up.entry.handle e among.front among.back among.is) ∙ q))

@@ -1,12 +1,14 @@
-use Rattle.std.proofs.Common.{◌↔◌, IsSome, IsTrue, length}
-use Rattle.std.specs.Prelude.{IsSomeAnd}
-use Rattle.pe_frames.specs.Forest.{path_of, entry_of, is_under}
+use Rattle.std.proofs.Common.{length, IsSome}
+use Rattle.pe_frames.specs.Forest.{path_of, entry_of}
+use Rattle.pe_frames.proofs.Climbing.{IsWithin}
 use Rattle.pe_frames.proofs.frames.Frames.climbs_to.Given as goal
-
-abbrev pub invariant-loop-root : goal.invariant-loop-root
-invariant-loop-root g l =
-    IsSome (entry_of l.self.entries l.up)
-    × (IsSomeAnd (entry_of l.self.entries l.up) (λ e. IsTrue (is_under l.root e)) ↔ IsSomeAnd (entry_of l.self.entries l.fn.at) (λ e. IsTrue (is_under l.root e)))
 
 abbrev pub decreases-loop-root : goal.decreases-loop-root
 decreases-loop-root g l = length (path_of l.self.entries l.up)
+
+abbrev pub invariant-loop-root : goal.invariant-loop-root
+invariant-loop-root g l = record {
+  live : IsSome (entry_of l.self.entries l.up);
+  down : IsWithin l.self.entries l.root l.up → IsWithin l.self.entries l.root l.fn.at;
+  up : IsWithin l.self.entries l.root l.fn.at → IsWithin l.self.entries l.root l.up;
+}
