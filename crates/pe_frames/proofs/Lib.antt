@@ -2,6 +2,7 @@ pub mod Below
 pub mod Children
 pub mod Climbing
 pub mod Closed
+pub mod Closing
 pub mod Cuts
 pub mod Documents
 pub mod Embedded

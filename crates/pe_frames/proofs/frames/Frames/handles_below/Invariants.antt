@@ -1,14 +1,7 @@
-use Rattle.std.proofs.Common.{◌≡◌, ◌<◌, ◌∷◌, Some, take, length, ◌-◌, ◌+◌}
-use Rattle.pe_frames.specs.Forest.{last_of}
+use Rattle.std.proofs.Common.{length, ◌-◌}
 use Rattle.pe_frames.specs.Order.{handles_under}
 use Rattle.pe_frames.proofs.Climbing.{IsListed}
 use Rattle.pe_frames.proofs.frames.Frames.handles_below.Given as goal
-
-abbrev pub invariant-loop-next : goal.invariant-loop-next
-invariant-loop-next g l =
-    (l.h ∷ l.below.items ≡ take (length l.below.items + 1) (handles_under l.self.entries l.h))
-    × (last_of (l.h ∷ l.below.items) ≡ Some l.at)
-    × (length l.below.items < length (handles_under l.self.entries l.h))
 
 abbrev pub decreases-loop-next : goal.decreases-loop-next
 decreases-loop-next g l = length (handles_under l.self.entries l.h) - length l.below.items
