@@ -9,6 +9,7 @@ pub mod Embedded
 pub mod Kin
 pub mod Leaving
 pub mod Linked
+pub mod Navigated
 pub mod Nodes
 pub mod Opened
 pub mod Pages
