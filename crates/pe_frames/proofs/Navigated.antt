@@ -11,7 +11,7 @@ use Rattle.pe_frames.specs.declared.row.Standing.{Standing}
 use Rattle.pe_frames.specs.declared.node.Node.{Node}
 use Rattle.pe_frames.specs.Forest.{Forest, Entry, first_of, last_of, same_handle, has_handle, entry_of, node_in, parent_of, top_of, is_top, is_under, page_size, page_count, redone, with_doc, IsDead, StayDead}
 use Rattle.pe_frames.specs.Order.{is_named, handles_under, docs_under, navigated}
-use Rattle.pe_frames.specs.Links.{links_by, young, siblings, links_in, at, smaller, renewed, docs_at, SameMarks, Rewrites, Removes}
+use Rattle.pe_frames.specs.Links.{links_by, young, siblings, links_in, at, smaller, renewed, doc_before, docs_at, SameMarks, Rewrites, Removes}
 use Rattle.pe_frames.specs.Kept.{kept, shown, entries_in, HasLinks, Sweeps, forest_in, IsForest}
 use Rattle.pe_frames.proofs.Nodes.{same_handle-Decides, same_or_other, found-live}
 use Rattle.pe_frames.proofs.Pages.{not_same, top-found}
@@ -192,3 +192,169 @@ module _ {D : Type 0} where
             has
             ∙ sym (ap (λ ks. links_by (young (filter (spares h) news) k) ks k) (siblings-kept x.node.parent parent-out)
             ∙ ap (λ ks. links_by ks (siblings news x.node.parent) k) (young-kept k u g))
+
+    -- no top frame goes
+    low-goes : (y : Entry D) → entry_of news y.handle ≡ Some y → has_handle y.handle below ≡ true → is_top y ≡ false
+    low-goes y f t = not_same (is_top y) (λ top.
+        let b = was y.handle y f in
+        let both = below-goes y.handle t in
+        let g = top-goes olds (tree-forest s order pages is) h leaves.entry leaves.found y.handle b.entry b.found (top-none b.entry.above (ap (λ (x : Entry D). is_top x) b.is ∙ top)) in
+        true≢false (sym (sym g ∙ both.1) ∙ turned h y.handle both.0))
+
+    root-written : (e : Entry D) → entry_of olds h ≡ Some e → entry_of news h ≡ Some (redone h w e)
+    root-written e f = ap (λ es. entry_of es h) redone-news ∙ entry_of-redone h w olds h ∙ ap (option_map (redone h w)) f
+
+    top-spared : has_handle (top_of leaves.entry) below ≡ false
+    top-spared =
+        let has = top-found (kept s order []) is.nodes is.apart h leaves.entry leaves.found in
+        let g = top-goes olds (tree-forest s order pages is) h leaves.entry leaves.found (top_of leaves.entry) has.top has.found (ap last_of has.bare) in
+        not_same (has_handle (top_of leaves.entry) below) (λ t.
+        let both = below-goes (top_of leaves.entry) t in
+        true≢false (sym (sym g ∙ both.1) ∙ turned h (top_of leaves.entry) both.0))
+
+    -- the steps of the code
+    module _ (one two : Slots (Row D)) (renew : IfSome (live s h) (λ x. one ≡ with_value s h.slot (renewed w x))) (emptied : Removes one two below) where
+      writes : Rewrites s (with_value s h.slot (redoc w r)) (at (Some h) (redoc w))
+      writes = Rewrites-one s (with_value s h.slot (redoc w r)) h (redoc w) (ap is_some found) (subst (λ o. IfSome o (λ x. with_value s h.slot (redoc w r) ≡ with_value s h.slot (redoc w x))) (sym found) refl)
+
+      renews : Rewrites s one (at (Some h) (renewed w))
+      renews = Rewrites-one s one h (renewed w) (ap is_some found) renew
+
+      clears : Rewrites (with_value s h.slot (redoc w r)) one (at (Some h) childless)
+      clears = record {
+        rows = λ k. renews.rows k ∙ in_two (same_handle h k) (live s k) ∙ ap (option_map (at (Some h) childless k)) (sym (writes.rows k));
+        same = SameMarks-then (with_value s h.slot (redoc w r)) s one (turn-marks s (with_value s h.slot (redoc w r)) writes.same) renews.same;
+      }
+        where
+          in_two : (b : Bool) (o : Option (Row D)) → option_map (λ x. cond b (renewed w x) x) o ≡ option_map (λ x. cond b (childless x) x) (option_map (λ x. cond b (redoc w x) x) o)
+          in_two true None = refl
+          in_two false None = refl
+          in_two true (Some x) = refl
+          in_two false (Some x) = refl
+
+      -- the documents, that of the frame first
+      pub docs-navigated : r.node.doc ∷ docs_at one below ≡ docs_under (entries_in (kept s order [])) h
+      docs-navigated =
+          ap (λ ds. r.node.doc ∷ ds) (docs-same s one below (λ k t. renews.rows k ∙ other (same_handle h k) (live s k) (below-goes k t).0))
+          ∙ sym (ap (λ (o : Option (Row D)). doc_before o (docs_at s below)) found)
+          ∙ ap (docs_at s) leaves.all
+          ∙ docs-below s order pages is h
+        where
+          other : (b : Bool) (o : Option (Row D)) → b ≡ false → option_map (λ x. cond b (renewed w x) x) o ≡ o
+          other b None u = refl
+          other b (Some x) u = ap (λ c. Some (cond c (renewed w x) x)) u
+
+      -- the row of the page's top frame
+      record TopTwo : Type 0 where
+        row : Row D
+        at_two : live two (top_of leaves.entry) ≡ Some row
+        size : length below ≤ row.size
+
+      top-two : TopTwo
+      top-two =
+          let top = TopRow-live (with_value s h.slot (redoc w r)) order pages is-written h (redone h w leaves.entry) (root-written leaves.entry leaves.found) in
+          let less = page-less (with_value s h.slot (redoc w r)) order pages is-written below (spares h) (top_of leaves.entry) leaves-below in
+          let size = top.sized.size in
+          let same = at-keeps (λ (x : Row D). x.size) (Some h) childless (λ x. refl) (top_of leaves.entry) top.row in
+          record {
+            row = at (Some h) childless (top_of leaves.entry) top.row;
+            at_two =
+                emptied.rows (top_of leaves.entry)
+                ∙ ap (λ b. cond b None (live one (top_of leaves.entry))) top-spared
+                ∙ clears.rows (top_of leaves.entry)
+                ∙ ap (option_map (at (Some h) childless (top_of leaves.entry))) top.found;
+            size = omega (arith, less, size, same);
+          }
+
+      top-here : (o : Option Handle) → o ≡ Some here.top → o ≡ Some (top_of leaves.entry)
+      top-here o e = e ∙ ap (λ (x : Standing). Some x.top) leaves.here_is
+
+      pub top-lives : (o : Option Handle) → o ≡ Some here.top → IfSome o (λ k. IsSome (live two k))
+      top-lives o e = subst (λ x. IfSome x (λ k. IsSome (live two k))) (sym (top-here o e)) (ap is_some top-two.at_two)
+
+      pub top-large : (o : Option Handle) → o ≡ Some here.top → (n : ℕ) → n ≡ length below → IfSome o (λ k. IfSome (live two k) (λ x. n ≤ x.size))
+      top-large o e n many =
+          let top = top-two in
+          let size = top.size in
+          subst (λ x. IfSome x (λ k. IfSome (live two k) (λ y. n ≤ y.size))) (sym (top-here o e))
+          (subst (λ x. IfSome x (λ (y : Row D). n ≤ y.size)) (sym top.at_two) (omega (arith, size, many)))
+
+      module _ (o : Option Handle) (named : o ≡ Some here.top) (n : ℕ) (many : n ≡ length below) (t : Slots (Row D)) (shrunk : Rewrites two t (at o (smaller n))) (swept : List Handle) (sweeps : Sweeps t order swept) where
+        shrinks : Rewrites two t (at (Some (top_of leaves.entry)) (smaller (length below)))
+        shrinks = subst (λ m. Rewrites two t (at (Some (top_of leaves.entry)) (smaller m))) many (subst (λ x. Rewrites two t (at x (smaller n))) (top-here o named) shrunk)
+
+        changes : Changes (with_value s h.slot (redoc w r)) t (λ k. has_handle k below) (λ k x. at (Some (top_of leaves.entry)) (smaller (length below)) k (at (Some h) childless k x))
+        changes = record {
+          rows = λ k.
+              shrinks.rows k
+              ∙ ap (option_map (at (Some (top_of leaves.entry)) (smaller (length below)) k)) (emptied.rows k ∙ ap (cond (has_handle k below) None) (clears.rows k))
+              ∙ in_turn (has_handle k below) (at (Some (top_of leaves.entry)) (smaller (length below)) k) (at (Some h) childless k) (live (with_value s h.slot (redoc w r)) k);
+          keeps = λ k x.
+              at-keeps (λ (y : Row D). y.node) (Some (top_of leaves.entry)) (smaller (length below)) (λ y. refl) k (at (Some h) childless k x)
+              ∙ at-keeps (λ (y : Row D). y.node) (Some h) childless (λ y. refl) k x;
+          same = SameMarks-then (with_value s h.slot (redoc w r)) one t clears.same (SameMarks-then one two t emptied.same shrinks.same);
+        }
+          where
+            in_turn : (b : Bool) (f g : Row D → Row D) (p : Option (Row D)) → option_map f (cond b None (option_map g p)) ≡ option_map (λ x. f (g x)) (cond b None p)
+            in_turn true f g p = refl
+            in_turn false f g None = refl
+            in_turn false f g (Some x) = refl
+
+        sizes : (k : Handle) (x : Row D) → (at (Some (top_of leaves.entry)) (smaller (length below)) k (at (Some h) childless k x)).size ≡ cond (is_named (Some (top_of leaves.entry)) k) (x.size - length below) x.size
+        sizes k x =
+            by_test (same_handle (top_of leaves.entry) k) (at (Some h) childless k x)
+            ∙ ap (λ m. cond (same_handle (top_of leaves.entry) k) (m - length below) m) (at-keeps (λ (y : Row D). y.size) (Some h) childless (λ y. refl) k x)
+          where
+            by_test : (b : Bool) (y : Row D) → (cond b (smaller (length below) y) y).size ≡ cond b (y.size - length below) y.size
+            by_test true y = refl
+            by_test false y = refl
+
+        links-then : (k : Handle) (x : Row D) → live t k ≡ Some x → HasLinks (filter (spares h) news) k x
+        links-then k x f =
+            let b = stayed (with_value s h.slot (redoc w r)) t (λ j. has_handle j below) (λ j y. at (Some (top_of leaves.entry)) (smaller (length below)) j (at (Some h) childless j y)) changes k x f in
+            subst (HasLinks (filter (spares h) news) k) b.is
+            (shrunk-links (same_handle (top_of leaves.entry) k) (at (Some h) childless k b.row) (links-kept k b.row b.found b.here))
+          where
+            shrunk-links : (b : Bool) (y : Row D) → HasLinks (filter (spares h) news) k y → HasLinks (filter (spares h) news) k (cond b (smaller (length below) y) y)
+            shrunk-links true y has = has
+            shrunk-links false y has = has
+
+        pub IsForest-navigated : IsForest t swept pages
+        IsForest-navigated =
+            IsForest-cut (with_value s h.slot (redoc w r)) t order pages is-written (λ k. has_handle k below) (spares h)
+            (IsCut-left (with_value s h.slot (redoc w r)) order pages is-written below (spares h) (top_of leaves.entry) leaves-below t (λ k x. at (Some (top_of leaves.entry)) (smaller (length below)) k (at (Some h) childless k x)) changes)
+            swept sweeps pages
+            (is-written.paged ∙ pages-same (with_value s h.slot (redoc w r)) order pages is-written below (spares h) (top_of leaves.entry) leaves-below low-goes)
+            is.few
+            (sized-left (with_value s h.slot (redoc w r)) order pages is-written below (spares h) (top_of leaves.entry) leaves-below t (λ k x. at (Some (top_of leaves.entry)) (smaller (length below)) k (at (Some h) childless k x)) changes (Some (top_of leaves.entry)) sizes (λ k g. refl))
+            links-then
+
+        pub entries-navigated : (forest_in t swept).entries ≡ navigated h w (forest_in s order).entries
+        entries-navigated =
+            entries-cut (with_value s h.slot (redoc w r)) t order pages is-written (λ k. has_handle k below) (spares h)
+            (IsCut-left (with_value s h.slot (redoc w r)) order pages is-written below (spares h) (top_of leaves.entry) leaves-below t (λ k x. at (Some (top_of leaves.entry)) (smaller (length below)) k (at (Some h) childless k x)) changes)
+            swept sweeps
+            ∙ ap (filter (spares h)) redone-news
+            ∙ filter-redone h w olds
+
+        pub marks-navigated : (forest_in t swept).marks ≡ (forest_in s order).marks
+        marks-navigated = shrinks.same.marks ∙ emptied.same.marks ∙ renews.same.marks
+
+        pub made-navigated : (forest_in t swept).made ≡ (forest_in s order).made
+        made-navigated = shrinks.same.made ∙ emptied.same.made ∙ renews.same.made
+
+        pub StayDead-navigated : StayDead (forest_in s order) (forest_in t swept)
+        StayDead-navigated k dead =
+            StayDead-cut (with_value s h.slot (redoc w r)) t order pages is-written (λ j. has_handle j below) (spares h)
+            (IsCut-left (with_value s h.slot (redoc w r)) order pages is-written below (spares h) (top_of leaves.entry) leaves-below t (λ j x. at (Some (top_of leaves.entry)) (smaller (length below)) j (at (Some h) childless j x)) changes)
+            swept sweeps k
+            (subst (λ (f : Forest D). IsDead f k) (sym (forest-written h w s r found order pages is))
+            (record { given = dead.given; gone = entry_of-redone h w olds k ∙ ap (option_map (redone h w)) dead.gone }))
+
+        pub IsDead-navigated : (k : Handle) → IsSome (entry_of (forest_in s order).entries k) → entry_of (forest_in t swept).entries k ≡ None → IsDead (forest_in t swept) k
+        IsDead-navigated k some none =
+            IsDead-cut (with_value s h.slot (redoc w r)) t order pages is-written (λ j. has_handle j below) (spares h)
+            (IsCut-left (with_value s h.slot (redoc w r)) order pages is-written below (spares h) (top_of leaves.entry) leaves-below t (λ j x. at (Some (top_of leaves.entry)) (smaller (length below)) j (at (Some h) childless j x)) changes)
+            swept sweeps k
+            (subst IsSome (sym (ap (λ es. entry_of es k) redone-news ∙ entry_of-redone h w olds k)) (some_redone h w (entry_of olds k) some))
+            none
