@@ -24,10 +24,6 @@ first-push : (ks : List Handle) (k h : Handle) → first_of (ks ++ k ∷ []) h �
 first-push [] k h = refl
 first-push (x ∷ ks) k h = refl
 
-if_some : {A : Type 0} (P : A → Type 0) (o : Option A) (x : A) → o ≡ Some x → IfSome o P → P x
-if_some P None x e f = absurd cc
-if_some P (Some y) x e f = let q : y ≡ x = cc in subst P q f
-
 module _ {D : Type 0} where
   -- the frame of a handle has the handle
   pub entry-handle : (es : List (Entry D)) (h : Handle) (e : Entry D) → entry_of es h ≡ Some e → e.handle ≡ h
@@ -116,10 +112,6 @@ module _ {D : Type 0} where
         bare = top.bare;
         room = omega (arith, size, within, at, room);
       }
-
-  -- what was written of the row of the page's top frame
-  pub size_written : (mid t : Slots (Row D)) (k : Handle) (r : Row D) → live mid k ≡ Some r → IfSome (live mid k) (λ x. t ≡ with_value mid k.slot (record x { size = x.size + 1 })) → t ≡ with_value mid k.slot (record r { size = r.size + 1 })
-  size_written mid t k r e f = if_some (λ x. t ≡ with_value mid k.slot (record x { size = x.size + 1 })) (live mid k) r e f
 
   pub room_is : (o : Option (Row D)) (r : Row D) → o ≡ Some r → r.size ≤ 255 → IfSome o (λ x. x.size ≤ 255)
   room_is None r e f = absurd cc

@@ -9,7 +9,7 @@ use Rattle.pe_frames.specs.Forest.{Entry, same_handle, has_handle, last_of, pare
 use Rattle.pe_frames.specs.Order.{is_named, head_of, after, is_child, children, child_handles}
 use Rattle.pe_frames.specs.Links.{before, young}
 use Rattle.pe_frames.specs.Kept.{Kept, node_at, entry_in, entries_in, AreNodes, AreApart, AreOnce}
-use Rattle.pe_frames.proofs.Nodes.{same_handle-Decides, same_or_other}
+use Rattle.pe_frames.proofs.Nodes.{has-push, same_handle-Decides, same_or_other}
 use Rattle.pe_frames.proofs.Below.{last-push}
 
 true_or_false : (b : Bool) → (b ≡ true) ⊎ (b ≡ false)
@@ -47,18 +47,6 @@ before-absent h (k ∷ ks) e =
 abbrev pub turned : List Handle → List Handle
 turned [] = []
 turned (k ∷ ks) = turned ks ++ k ∷ []
-
-has-push : (k h : Handle) (hs : List Handle) → has_handle k (hs ++ h ∷ []) ≡ (has_handle k hs || same_handle h k)
-has-push k h [] = or_none (same_handle h k)
-  where
-    or_none : (b : Bool) → (b || false) ≡ (false || b)
-    or_none true = refl
-    or_none false = refl
-has-push k h (x ∷ hs) = ap (λ b. same_handle x k || b) (has-push k h hs) ∙ regroup (same_handle x k) (has_handle k hs) (same_handle h k)
-  where
-    regroup : (a b c : Bool) → (a || (b || c)) ≡ ((a || b) || c)
-    regroup true b c = refl
-    regroup false b c = refl
 
 has-turned : (k : Handle) (ks : List Handle) → has_handle k (turned ks) ≡ has_handle k ks
 has-turned k [] = refl

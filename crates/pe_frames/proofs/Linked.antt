@@ -185,10 +185,10 @@ module _ {D : Type 0} where
         links-old r has other =
             links-of (is_named (head_of (young es p)) j) (is_named (cond (is_none (head_of (young es p))) (Some p) None) j) (same_handle p j) e.handle r
             ∙ (λ i. record {
-            first = first-linked r.links.first (ap (λ (l : Links). l.first) has) i;
-            last = last-linked r.links.last (ap (λ (l : Links). l.last) has) i;
-            earlier = earlier i;
-            later = later i;
+              first = first-linked r.links.first (ap (λ (l : Links). l.first) has) i;
+              last = last-linked r.links.last (ap (λ (l : Links). l.last) has) i;
+              earlier = earlier i;
+              later = later i;
             })
             ∙ ap (links_in (e ∷ es) j) (sym (ap (λ (n : Node D). n.parent) (linked-node p (head_of (young es p)) e.handle j r)))
           where

@@ -13,19 +13,7 @@ use Rattle.pe_frames.specs.Kept.{above_in, Kept, joined, kept, entry_in, entries
 use Rattle.pe_frames.specs.Links.{Rewrites}
 use Rattle.pe_frames.proofs.Writes.{different, mark-kept, slots-kept}
 use Rattle.pe_frames.proofs.Pages.{page-empty, page-more, page-same}
-use Rattle.pe_frames.proofs.Nodes.{kept-live, same_handle-Decides, same_or_other}
-
-has-push : (k h : Handle) (hs : List Handle) → has_handle k (hs ++ h ∷ []) ≡ (has_handle k hs || same_handle h k)
-has-push k h [] = or_none (same_handle h k)
-  where
-    or_none : (b : Bool) → (b || false) ≡ (false || b)
-    or_none true = refl
-    or_none false = refl
-has-push k h (x ∷ hs) = ap (λ b. same_handle x k || b) (has-push k h hs) ∙ regroup (same_handle x k) (has_handle k hs) (same_handle h k)
-  where
-    regroup : (a b c : Bool) → (a || (b || c)) ≡ ((a || b) || c)
-    regroup true b c = refl
-    regroup false b c = refl
+use Rattle.pe_frames.proofs.Nodes.{has-push, kept-live, same_handle-Decides, same_or_other}
 
 either : (a b : Bool) → (a || b) ≡ true → (a ≡ true) ⊎ (b ≡ true)
 either true b e = inl refl

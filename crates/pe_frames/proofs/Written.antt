@@ -23,7 +23,7 @@ module _ {D : Type 0} (h : Handle) (w : D) where
   abbrev renode : Handle → Node D → Node D
   renode k n = record n { doc = cond (same_handle k h) w n.doc }
 
-  entry_of-redone : (es : List (Entry D)) (p : Handle) → entry_of (map (redone h w) es) p ≡ option_map (redone h w) (entry_of es p)
+  pub entry_of-redone : (es : List (Entry D)) (p : Handle) → entry_of (map (redone h w) es) p ≡ option_map (redone h w) (entry_of es p)
   entry_of-redone [] p = refl
   entry_of-redone (e ∷ es) p = by_test (same_handle e.handle p) (entry_of-redone es p)
     where
@@ -90,7 +90,7 @@ module _ {D : Type 0} (h : Handle) (w : D) where
       by_test true rest = omega (arith, rest)
       by_test false rest = rest
 
-  young-redone : (es : List (Entry D)) (p : Handle) → young (map (redone h w) es) p ≡ young es p
+  pub young-redone : (es : List (Entry D)) (p : Handle) → young (map (redone h w) es) p ≡ young es p
   young-redone [] p = refl
   young-redone (e ∷ es) p = ap (λ ks. cond (is_child p e) (e.handle ∷ ks) ks) (young-redone es p)
 

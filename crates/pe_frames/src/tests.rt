@@ -85,7 +85,10 @@ fn sixty_four_levels(rt: HostRuntime) {
     assert_eq!(rt; child(&mut frames, handle(64), 65), Err(TreeFault::Stale));
     assert_eq!(rt; frames.top(handle(63)), Some(handle(0)));
     assert_eq!(rt; frames.page_size(handle(63)), Some(64));
-    assert_eq!(rt; frames.preorder_next(handle(0), handle(62)), Some(handle(63)));
+    assert_eq!(rt;
+        frames.preorder_next(handle(0), handle(62)),
+        Some(handle(63))
+    );
     assert_eq!(rt; frames.preorder_next(handle(0), handle(63)), None);
     let closed = frames.close(handle(32)).map(|docs| docs.len());
     assert_eq!(rt; closed, Ok(32));

@@ -55,6 +55,7 @@ impl<D: Numbered> Frames<D> {
     fn is_within(&self, root: Handle, at: Handle) -> bool
         ensures { IsTrue result ↔ IsSomeAnd (entry_of self.now.entries at) (λ e. IsTrue (is_under root e)) }
     {
+        let _ = &self.order;
         let Some(top) = self.top(at) else {
             return false;
         };

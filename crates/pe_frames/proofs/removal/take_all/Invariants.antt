@@ -1,4 +1,4 @@
-use Rattle.std.proofs.Common.{◌≡◌, ◌≤◌, ◌+◌, ◌++◌, take, length, vec_len, vec_capacity}
+use Rattle.std.proofs.Common.{◌≡◌, ◌≤◌, ◌+◌, ◌++◌, take, vec_len, vec_capacity}
 use Rattle.pe_frames.specs.Links.{Removes, docs_at}
 use Rattle.pe_frames.proofs.removal.take_all.Given as goal
 

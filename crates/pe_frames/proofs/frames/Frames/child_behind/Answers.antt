@@ -1,6 +1,6 @@
-use Rattle.std.proofs.Common.{◌≡◌, Some, None, [], ap, ◌∙◌, sym, subst, true≢false}
+use Rattle.std.proofs.Common.{◌≡◌, [], ap, ◌∙◌, sym, subst, true≢false}
 use Rattle.std.specs.Option.{option_map}
-use Rattle.pe_frames.specs.Forest.{Forest, entry_of, parent_of}
+use Rattle.pe_frames.specs.Forest.{Forest, entry_of}
 use Rattle.pe_frames.specs.Order.{after, child_handles}
 use Rattle.pe_frames.specs.Kept.{kept, entries_in, standing_in}
 use Rattle.pe_frames.proofs.Standings.{no-entry, stands-at}

@@ -1,11 +1,10 @@
-use Rattle.std.proofs.Common.{◌≡◌, ◌≢◌, ◌+◌, [], ◌∷◌, ◌++◌, arith, ap, ◌∙◌, sym, subst, refl}
+use Rattle.std.proofs.Common.{◌≡◌, ◌≢◌, ◌+◌, [], ◌∷◌, ◌++◌, ap, ◌∙◌, sym, subst}
 use Rattle.std.specs.Prelude.{IsSomeAnd}
 use Rattle.pe_frames.specs.declared.row.Row.{Row}
 use Rattle.pe_frames.specs.Forest.{Forest, StayDead, page_size, entry_of, top_of, depth_of}
 use Rattle.pe_frames.specs.Order.{head_of}
 use Rattle.pe_frames.specs.Links.{young}
 use Rattle.pe_frames.specs.Kept.{kept, entries_in, forest_in}
-use Rattle.pe_frames.proofs.Opened.{Makes}
 use Rattle.pe_frames.proofs.Below.{below-of}
 use Rattle.pe_frames.proofs.Embedded.{Embeds, top-live, top-room, parent-live, last-live, makes-below, IsForest-below, entries-below, StayDead-below}
 use Rattle.pe_frames.proofs.frames.Frames.embed.Goals as goal

@@ -1,4 +1,4 @@
-use Rattle.std.proofs.Common.{◌≡◌, Some, None, [], ap, ◌∙◌, sym, subst}
+use Rattle.std.proofs.Common.{◌≡◌, None, [], ap, ◌∙◌, sym, subst}
 use Rattle.std.specs.Option.{option_map}
 use Rattle.pe_frames.specs.Forest.{Forest, entry_of}
 use Rattle.pe_frames.specs.Order.{next_child_of}

@@ -1,10 +1,9 @@
-use Rattle.std.proofs.Common.{◌≡◌, ◌+◌, [], ◌∷◌, ◌++◌, arith, ap, ◌∙◌, sym, subst, refl}
+use Rattle.std.proofs.Common.{[], ◌∷◌, ◌++◌, arith, ap, ◌∙◌, sym, subst, refl}
 use Rattle.pe_frames.specs.declared.row.Row.{Row}
 use Rattle.pe_frames.specs.declared.node.Node.{Node}
 use Rattle.pe_frames.specs.Forest.{StayDead}
-use Rattle.pe_frames.specs.Kept.{kept, entries_in, forest_in}
-use Rattle.pe_frames.proofs.Opened.{Makes}
-use Rattle.pe_frames.proofs.Topped.{Opens, makes-top, IsForest-top, entries-top, StayDead-top}
+use Rattle.pe_frames.specs.Kept.{forest_in}
+use Rattle.pe_frames.proofs.Topped.{Opens, IsForest-top, entries-top, StayDead-top}
 use Rattle.pe_frames.proofs.frames.Frames.open_page.Goals as goal
 
 pub invariant_of-self-2 : goal.invariant_of-self-2
