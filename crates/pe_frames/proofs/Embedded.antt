@@ -8,7 +8,7 @@ use Rattle.pe_arena.proofs.Live.{unlive-next}
 use Rattle.pe_frames.specs.declared.row.Row.{Row}
 use Rattle.pe_frames.specs.declared.node.Node.{Node}
 use Rattle.pe_frames.specs.declared.node.Place.{Place}
-use Rattle.pe_frames.specs.Forest.{Entry, StayDead, same_handle, has_handle, parent_of, top_of, entry_of, node_in, page_size, page_count}
+use Rattle.pe_frames.specs.Forest.{Entry, Gives, StayDead, same_handle, has_handle, parent_of, top_of, entry_of, node_in, page_size, page_count}
 use Rattle.pe_frames.specs.Order.{is_named, head_of}
 use Rattle.pe_frames.specs.Links.{Rewrites, at, young, linked}
 use Rattle.pe_frames.specs.Kept.{kept, shown, node_at, entry_in, entries_in, HasLinks, forest_in, IsForest}
@@ -18,7 +18,7 @@ use Rattle.pe_frames.proofs.Writes.{Rewrites-one, Rewrites-then, still-live, dif
 use Rattle.pe_frames.proofs.Below.{IsBelow, IsCounted, IsCounted-below, room_is, node-below, top-entry, pages-below}
 use Rattle.pe_frames.proofs.Kin.{child-absent, childless}
 use Rattle.pe_frames.proofs.Linked.{linked-node, linked-size, grown, grown-node, grown-size, grown-links, links-new, links-old, last-is-child, last-kept}
-use Rattle.pe_frames.proofs.Opened.{Steps, Makes, Makes-steps, each-row, sized-below, IsForest-made, StayDead-made, entries-made}
+use Rattle.pe_frames.proofs.Opened.{Steps, Makes, Makes-steps, each-row, sized-below, IsForest-made, StayDead-made, new-made, Gives-made, entries-made}
 
 if_each : {A : Type 0} (P : A → Type 0) (o : Option A) → ((x : A) → o ≡ Some x → P x) → IfSome o P
 if_each P None f = tt
@@ -152,3 +152,9 @@ module _ {D : Type 0} where
 
         pub StayDead-below : StayDead (forest_in s order) (forest_in t (order ++ h ∷ []))
         StayDead-below = StayDead-made s t h row.node makes-below order pages is
+
+        pub new-below : entry_of (forest_in s order).entries h ≡ None
+        new-below = new-made s t h row.node makes-below order pages is
+
+        pub Gives-below : Gives (forest_in s order) (forest_in t (order ++ h ∷ [])) h
+        Gives-below = Gives-made s t h row.node makes-below order pages is

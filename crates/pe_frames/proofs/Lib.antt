@@ -7,6 +7,7 @@ pub mod Cuts
 pub mod Documents
 pub mod Embedded
 pub mod Kin
+pub mod Laws
 pub mod Leaving
 pub mod Linked
 pub mod Navigated

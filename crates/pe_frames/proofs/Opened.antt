@@ -4,15 +4,15 @@ use Rattle.std.specs.Prelude.{IfSome}
 use Rattle.std.proofs.Math.ListN.{get_or-map}
 use Rattle.pe_arena.specs.declared.handle.Handle.{Handle}
 use Rattle.pe_arena.specs.Slots.{Slot, Slots, live, mark, holding, with_value, IsNext, Updates}
-use Rattle.pe_arena.proofs.Live.{unlive-next, mark-holding, mark-le-holding, length-holding}
+use Rattle.pe_arena.proofs.Live.{unlive-next, mark-holding, mark-other-holding, mark-le-holding, length-holding}
 use Rattle.std.specs.Option.{option_map}
 use Rattle.pe_frames.specs.declared.row.Row.{Row}
 use Rattle.pe_frames.specs.declared.node.Node.{Node}
-use Rattle.pe_frames.specs.Forest.{Entry, page_size, first_of, top_of, same_handle, has_handle, entry_of, node_in, mark_of, page_count, StayDead}
+use Rattle.pe_frames.specs.Forest.{Entry, page_size, first_of, top_of, same_handle, has_handle, entry_of, node_in, mark_of, page_count, Gives, StayDead}
 use Rattle.pe_frames.specs.Kept.{above_in, Kept, joined, kept, entry_in, entries_in, shown, node_at, AreNodes, AreApart, IsSized, HasLinks, forest_in, IsForest}
 use Rattle.pe_frames.specs.Links.{Rewrites}
 use Rattle.pe_frames.proofs.Writes.{different, mark-kept, slots-kept}
-use Rattle.pe_frames.proofs.Pages.{page-empty, page-more, page-same}
+use Rattle.pe_frames.proofs.Pages.{entry-absent, page-empty, page-more, page-same}
 use Rattle.pe_frames.proofs.Nodes.{has-push, kept-live, same_handle-Decides, same_or_other}
 
 either : (a b : Bool) → (a || b) ≡ true → (a ≡ true) ⊎ (b ≡ true)
@@ -49,6 +49,12 @@ module _ {D : Type 0} where
   kept-push s h [] xs = refl
   kept-push s h (k ∷ hs) xs = kept-push s h hs (joined k (shown s k) xs)
 
+  -- contracts see the mark of each slot
+  pub mark-seen : (order : List Handle) (x : Slots (Row D)) (j : ℕ) → x.first ≡ 0 → mark_of (forest_in x order) j ≡ mark x j
+  mark-seen order x j e =
+      ap (λ f. get_or (map (λ (y : Slot (Row D)). y.mark) x.slots) j f) (sym e)
+      ∙ get_or-map (λ (y : Slot (Row D)). y.mark) x.slots j (record { mark = x.first; value = None })
+
   -- a frame was made: its handle is new and has this node, and all other nodes are as before
   pub record Makes (s t : Slots (Row D)) (h : Handle) (m : Node D) : Type 0 where
     pub fresh : h.generation ≡ mark s h.slot
@@ -56,7 +62,8 @@ module _ {D : Type 0} where
     pub here : shown t h ≡ Some m
     pub there : (k : Handle) → k ≢ h → shown t k ≡ shown s k
     pub marks : (j : ℕ) → mark s j ≤ mark t j
-    pub given : h.generation < mark t h.slot
+    pub given : mark t h.slot ≡ h.generation + 1
+    pub others : (j : ℕ) → j ≢ h.slot → mark t j ≡ mark s j
     pub counted : length t.slots + s.made ≤ length s.slots + t.made
     pub made : t.made ≡ s.made + 1
     pub limit : t.limit ≡ s.limit
@@ -82,7 +89,7 @@ module _ {D : Type 0} where
     given-made : (k : Handle) → has_handle k (order ++ h ∷ []) ≡ true → k.generation < mark t k.slot
     given-made k e = elim (either (has_handle k order) (same_handle h k) (sym (has-push k h order) ∙ e)) as (λ _. k.generation < mark t k.slot) [
       | inl a ↦ let l = is.given k a in let m = makes.marks k.slot in omega arith
-      | inr b ↦ subst (λ (x : Handle). x.generation < mark t x.slot) ((same_handle-Decides h k).0 b) makes.given
+      | inr b ↦ subst (λ (x : Handle). x.generation < mark t x.slot) ((same_handle-Decides h k).0 b) (let g = makes.given in omega arith)
     ]
 
     unkept : node_at (kept s order []) h ≡ None
@@ -117,18 +124,24 @@ module _ {D : Type 0} where
       first = makes.first ∙ is.first;
     }
 
-    mark-seen : (x : Slots (Row D)) (j : ℕ) → x.first ≡ 0 → mark_of (forest_in x order) j ≡ mark x j
-    mark-seen x j e =
-        ap (λ f. get_or (map (λ (y : Slot (Row D)). y.mark) x.slots) j f) (sym e)
-        ∙ get_or-map (λ (y : Slot (Row D)). y.mark) x.slots j (record { mark = x.first; value = None })
+    -- no live frame had the handle
+    pub new-made : entry_of (forest_in s order).entries h ≡ None
+    new-made = entry-absent (kept s order []) h is.nodes unkept
+
+    -- the slot of the handle gave it last
+    pub Gives-made : Gives (forest_in s order) (forest_in t (order ++ h ∷ [])) h
+    Gives-made = record {
+      given = mark-seen order t h.slot (makes.first ∙ is.first) ∙ makes.given;
+      others = λ j ne. mark-seen order t j (makes.first ∙ is.first) ∙ makes.others j ne ∙ sym (mark-seen order s j is.first);
+    }
 
     -- no dead handle lives again
     pub StayDead-made : StayDead (forest_in s order) (forest_in t (order ++ h ∷ []))
     StayDead-made k dead =
-        let before = mark-seen s k.slot is.first in
+        let before = mark-seen order s k.slot is.first in
         let given : k.generation < mark s k.slot = (let g = dead.given in omega arith) in
         record {
-          given = (let l = makes.marks k.slot in let e = mark-seen t k.slot (makes.first ∙ is.first) in omega arith);
+          given = (let l = makes.marks k.slot in let e = mark-seen order t k.slot (makes.first ∙ is.first) in omega arith);
           gone =
               let other : same_handle h k ≡ false = false_if (same_handle h k) (λ e.
               let below = subst (λ (x : Handle). x.generation < mark s x.slot) (sym ((same_handle-Decides h k).0 e)) given in
@@ -178,13 +191,16 @@ module _ {D : Type 0} where
         let l = mark-le-holding s h.slot row steps.next j in
         omega arith
 
-    mark-here : h.generation < mark t h.slot
+    mark-here : mark t h.slot ≡ h.generation + 1
     mark-here =
         let e = mark-then h.slot in
         let f = ap (λ x. mark x h.slot) steps.slots in
         let l = mark-holding s h.slot row steps.next in
         let g = steps.fresh in
         omega arith
+
+    mark-others : (j : ℕ) → j ≢ h.slot → mark t j ≡ mark s j
+    mark-others j ne = mark-then j ∙ ap (λ x. mark x j) steps.slots ∙ mark-other-holding s h.slot row steps.next j ne
 
     made-then : t.made ≡ s.made + 1
     made-then = steps.then.same.made ∙ ap (λ x. x.made) steps.slots
@@ -216,6 +232,7 @@ module _ {D : Type 0} where
       there = shown-there;
       marks = mark-le;
       given = mark-here;
+      others = mark-others;
       counted = counted-then;
       made = made-then;
       limit = steps.then.same.limit ∙ ap (λ x. x.limit) steps.slots;

@@ -7,7 +7,7 @@ use Rattle.pe_arena.specs.Slots.{Slots, live, mark, holding, with_value, IsNext,
 use Rattle.pe_arena.proofs.Live.{unlive-next}
 use Rattle.pe_frames.specs.declared.row.Row.{Row}
 use Rattle.pe_frames.specs.declared.node.Node.{Node}
-use Rattle.pe_frames.specs.Forest.{Entry, StayDead, same_handle, first_of, last_of, parent_of, top_of, node_in, page_count}
+use Rattle.pe_frames.specs.Forest.{Entry, entry_of, Gives, StayDead, same_handle, first_of, last_of, parent_of, top_of, node_in, page_count}
 use Rattle.pe_frames.specs.Links.{Rewrites, at, links_in}
 use Rattle.pe_frames.specs.Kept.{kept, node_at, above_in, entry_in, entries_in, HasLinks, forest_in, IsForest}
 use Rattle.pe_frames.proofs.Nodes.{same_handle-Decides, kept-live}
@@ -15,7 +15,7 @@ use Rattle.pe_frames.proofs.Pages.{not_same}
 use Rattle.pe_frames.proofs.Writes.{Rewrites-one}
 use Rattle.pe_frames.proofs.Kin.{childless}
 use Rattle.pe_frames.proofs.Linked.{links-top, links-alone}
-use Rattle.pe_frames.proofs.Opened.{Steps, Makes, Makes-steps, each-row, sized-top, IsForest-made, StayDead-made, entries-made}
+use Rattle.pe_frames.proofs.Opened.{Steps, Makes, Makes-steps, each-row, sized-top, IsForest-made, StayDead-made, new-made, Gives-made, entries-made}
 
 module _ {D : Type 0} where
   -- the row of the frame, which is the top one of its page
@@ -86,6 +86,12 @@ module _ {D : Type 0} where
 
     pub entries-top : (forest_in t (order ++ h ∷ [])).entries ≡ entry_in (entries_in (kept s order [])) (record { handle = h; node = top_node h frame doc }) ∷ entries_in (kept s order [])
     entries-top = entries-made s t h (top_node h frame doc) makes-top order pages is
+
+    pub new-top : entry_of (forest_in s order).entries h ≡ None
+    new-top = new-made s t h (top_node h frame doc) makes-top order pages is
+
+    pub Gives-top : Gives (forest_in s order) (forest_in t (order ++ h ∷ [])) h
+    Gives-top = Gives-made s t h (top_node h frame doc) makes-top order pages is
 
     pub StayDead-top : StayDead (forest_in s order) (forest_in t (order ++ h ∷ []))
     StayDead-top = StayDead-made s t h (top_node h frame doc) makes-top order pages is

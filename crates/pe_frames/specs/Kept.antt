@@ -7,17 +7,13 @@ use Rattle.pe_frames.specs.declared.row.Row.{Row}
 use Rattle.pe_frames.specs.declared.row.Standing.{Standing}
 use Rattle.pe_frames.specs.declared.node.Node.{Node}
 use Rattle.pe_frames.specs.Links.{links_in}
+pub use Rattle.pe_frames.specs.Order.{AreOnce}
 use Rattle.pe_frames.specs.Forest.{parent_of, top_of, depth_of, Entry, Forest, entry_of, path, has_handle, same_handle, node_in, page_size, page_count}
 
 -- a live frame as it is kept: its handle and its node
 pub record Kept (D : Type 0) : Type 0 where
   pub handle : Handle
   pub node : Node D
-
--- no handle is listed twice
-abbrev pub AreOnce : List Handle → Type 0
-AreOnce [] = ⊤
-AreOnce (k ∷ ks) = (has_handle k ks ≡ false) × AreOnce ks
 
 module _ {D : Type 0} where
   -- the frame of the handle, if it is live, before these

@@ -1,9 +1,9 @@
 -- The frames in order: the children of a frame, and the frames below it.
-use Rattle.std.specs.Prelude.{ℕ, zero, suc, Bool, false, not, ◌||◌, List, [], ◌∷◌, ◌++◌, map, filter, Option, None, Some, if◌then◌else◌}
+use Rattle.std.specs.Prelude.{◌≡◌, ⊤, ℕ, zero, suc, Bool, false, not, ◌||◌, List, [], ◌∷◌, ◌++◌, map, filter, Option, None, Some, if◌then◌else◌}
 use Rattle.std.specs.List.{flat_map}
 use Rattle.pe_arena.specs.declared.handle.Handle.{Handle}
 use Rattle.pe_base.specs.declared.limits.TheConstants.{DEPTH_LIMIT}
-use Rattle.pe_frames.specs.Forest.{Entry, same_handle, parent_of, entry_of, is_under, redone}
+use Rattle.pe_frames.specs.Forest.{Entry, same_handle, has_handle, parent_of, entry_of, is_under, redone}
 
 -- whether this is the named handle
 abbrev pub is_named : Option Handle → Handle → Bool
@@ -19,6 +19,11 @@ head_of (k ∷ ks) = Some k
 abbrev pub after : Handle → List Handle → Option Handle
 after h [] = None
 after h (k ∷ ks) = if same_handle k h then head_of ks else after h ks
+
+-- no handle is listed twice
+abbrev pub AreOnce : List Handle → Type 0
+AreOnce [] = ⊤
+AreOnce (k ∷ ks) = (has_handle k ks ≡ false) × AreOnce ks
 
 module _ {D : Type 0} where
   -- whether the named frame embeds this one

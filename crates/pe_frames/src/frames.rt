@@ -2,7 +2,7 @@
 ghost use Rattle.std.specs.Prelude.{◌≡◌, ◌≢◌, ◌⊎◌, ◌↔◌, ◌+◌, ◌<◌, ◌≤◌, ◌-◌, ◌^◌, ℕ, IsSome, IsTrue, IfSome, IsSomeAnd, [], ◌∷◌, IfOk, IfErr, OnOk, OnErr, None, Err, option_copied, vec_len, vec_capacity};
 ghost use Rattle.std.specs.Option.{option_map, option_and_then, option_copied_mut};
 ghost use Rattle.std.specs.Borrow.{sem};
-ghost use Rattle.pe_frames.specs.Forest.{entry_of, node_of, doc_of, parent_of, top_of, page_count, page_size, mark_of, path_of, depth_of, refusal, embed_fault, opened, IsDead, StayDead};
+ghost use Rattle.pe_frames.specs.Forest.{entry_of, node_of, doc_of, parent_of, top_of, page_count, page_size, mark_of, path_of, depth_of, refusal, embed_fault, opened, IsDead, Gives, StayDead};
 ghost use Rattle.pe_frames.specs.Order.{head_of, closed, navigated, handles_under, docs_under};
 ghost use Rattle.pe_frames.specs.Links.{young};
 ghost use Rattle.pe_frames.specs.Kept.{standing_in};
@@ -75,7 +75,9 @@ impl<D: Numbered> Frames<D> {
         requires { self.old.made < 2 ^ 32 - 1 }
         ensures entries { IfOk result (λ h. self.new.entries ≡ opened h [] frame doc self.old.entries) }
         ensures made { OnOk result (self.new.made ≡ self.old.made + 1) }
+        ensures new { IfOk result (λ h. entry_of self.old.entries h ≡ None) }
         ensures fresh { IfOk result (λ h. h.generation ≡ mark_of self.old h.slot) }
+        ensures marks { IfOk result (λ h. Gives self.old self.new h) }
         ensures dead { StayDead self.old self.new }
         ensures too_many_pages { (result ≡ Err TreeFault.TooManyPages) ↔ (page_count self.old.entries ≡ PAGE_LIMIT) }
         ensures only { IfErr result (λ e. (e ≡ TreeFault.TooManyPages) ⊎ (e ≡ TreeFault.Memory)) }
@@ -110,7 +112,9 @@ impl<D: Numbered> Frames<D> {
         requires { self.old.made < 2 ^ 32 - 1 }
         ensures entries { IfOk result (λ h. self.new.entries ≡ opened h (path_of self.old.entries parent) frame doc self.old.entries) }
         ensures made { OnOk result (self.new.made ≡ self.old.made + 1) }
+        ensures new { IfOk result (λ h. entry_of self.old.entries h ≡ None) }
         ensures fresh { IfOk result (λ h. h.generation ≡ mark_of self.old h.slot) }
+        ensures marks { IfOk result (λ h. Gives self.old self.new h) }
         ensures dead { StayDead self.old self.new }
         ensures fault { refusal result ≡ embed_fault self.old.entries parent }
         ensures err { OnErr result (self.new ≡ self.old) }

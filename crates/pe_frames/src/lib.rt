@@ -2,6 +2,7 @@
 #![tactic(auto)]
 
 mod frames;
+mod law;
 mod node;
 mod removal;
 mod row;

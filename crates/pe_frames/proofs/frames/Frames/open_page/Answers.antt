@@ -1,9 +1,9 @@
 use Rattle.std.proofs.Common.{[], ◌∷◌, ◌++◌, arith, ap, ◌∙◌, sym, subst, refl}
 use Rattle.pe_frames.specs.declared.row.Row.{Row}
 use Rattle.pe_frames.specs.declared.node.Node.{Node}
-use Rattle.pe_frames.specs.Forest.{StayDead}
+use Rattle.pe_frames.specs.Forest.{Gives, StayDead}
 use Rattle.pe_frames.specs.Kept.{forest_in}
-use Rattle.pe_frames.proofs.Topped.{Opens, IsForest-top, entries-top, StayDead-top}
+use Rattle.pe_frames.proofs.Topped.{Opens, IsForest-top, entries-top, new-top, Gives-top, StayDead-top}
 use Rattle.pe_frames.proofs.frames.Frames.open_page.Goals as goal
 
 pub invariant_of-self-2 : goal.invariant_of-self-2
@@ -48,6 +48,47 @@ returns-clause-entries g c =
     } in
     rw (c.push_reserved.ensures.items, c.reserve.ensures.items, ← c.self.view_is)
     (entries-top s mid t order c.self.inside.pages c.self.invariant h c.args.frame c.args.doc row opens)
+
+pub returns-clause-new : goal.returns-clause-new
+returns-clause-new g c =
+    let s = c.self.inside.rows in
+    let mid = c.put_row.new.rows in
+    let t = c.name_top.new.rows in
+    let order = c.self.inside.order.items in
+    let h = c.in-Ok.h in
+    let row : Row _ = record { node = c.top.result; size = 1; links = c.behind.result } in
+    let opens : Opens s mid t h c.args.frame c.args.doc row = record {
+      next = c.in-Ok.ensures.slot;
+      fresh = c.in-Ok.ensures.generation;
+      slots = c.in-Ok.ensures.slots;
+      taken = c.in-Ok.ensures.updates;
+      node = ap (λ (n : Node _). record n { top = h }) c.top.ensures;
+      links = c.behind.ensures;
+      one = refl;
+      written = c.name_top.ensures;
+    } in
+    rw (← c.self.view_is) (new-top s mid t order c.self.inside.pages c.self.invariant h c.args.frame c.args.doc row opens)
+
+pub returns-clause-marks : goal.returns-clause-marks
+returns-clause-marks g c =
+    let s = c.self.inside.rows in
+    let mid = c.put_row.new.rows in
+    let t = c.name_top.new.rows in
+    let order = c.self.inside.order.items in
+    let h = c.in-Ok.h in
+    let row : Row _ = record { node = c.top.result; size = 1; links = c.behind.result } in
+    let opens : Opens s mid t h c.args.frame c.args.doc row = record {
+      next = c.in-Ok.ensures.slot;
+      fresh = c.in-Ok.ensures.generation;
+      slots = c.in-Ok.ensures.slots;
+      taken = c.in-Ok.ensures.updates;
+      node = ap (λ (n : Node _). record n { top = h }) c.top.ensures;
+      links = c.behind.ensures;
+      one = refl;
+      written = c.name_top.ensures;
+    } in
+    let gives = Gives-top s mid t order c.self.inside.pages c.self.invariant h c.args.frame c.args.doc row opens in
+    rw (← c.self.view_is) (subst (λ hs. Gives (forest_in s order) (forest_in t hs) h) (sym (c.push_reserved.ensures.items ∙ ap (λ hs. hs ++ h ∷ []) c.reserve.ensures.items)) gives)
 
 pub returns-clause-dead : goal.returns-clause-dead
 returns-clause-dead g c =
