@@ -1,12 +1,12 @@
 -- What is so of every tree of frames.
-use Rattle.std.proofs.Common.{◌≡◌, ◌⊎◌, inl, inr, ℕ, ◌+◌, ◌<◌, ◌≤◌, Bool, true, false, cond, List, [], ◌∷◌, Option, None, Some, IsSome, is_some, refl, sym, ap, subst, ◌∙◌, arith, true≢false}
+use Rattle.std.proofs.Common.{◌≡◌, ◌⊎◌, inl, inr, ℕ, ◌≤◌, Bool, true, false, cond, List, [], ◌∷◌, Option, None, Some, IsSome, is_some, refl, sym, ap, subst, ◌∙◌, arith, true≢false}
 use Rattle.std.specs.Prelude.{◌↔◌, IsTrue, IsSomeAnd}
 use Rattle.std.specs.Option.{option_map}
 use Rattle.pe_base.specs.declared.limits.TheConstants.{DEPTH_LIMIT}
 use Rattle.pe_arena.specs.declared.handle.Handle.{Handle}
 use Rattle.pe_arena.specs.Slots.{Slots}
 use Rattle.pe_frames.specs.declared.row.Row.{Row}
-use Rattle.pe_frames.specs.Forest.{Entry, Forest, has_handle, same_handle, path, depth_of, entry_of, node_in, is_under, IsNewest, AreFrames, AreGiven}
+use Rattle.pe_frames.specs.Forest.{Entry, Forest, has_handle, same_handle, path, depth_of, entry_of, node_in, is_under, AreFrames, AreGiven}
 use Rattle.pe_frames.specs.Order.{handles_under, AreOnce}
 use Rattle.pe_frames.specs.Kept.{Kept, kept, above_in, entry_in, entries_in, AreNodes, AreApart, forest_in, IsForest}
 use Rattle.pe_frames.proofs.Nodes.{same_or_other, found-live}
@@ -14,7 +14,6 @@ use Rattle.pe_frames.proofs.Pages.{Above, above-of, nothing, below, entry-absent
 use Rattle.pe_frames.proofs.Opened.{mark-seen}
 use Rattle.pe_frames.proofs.Tree.{IsTree, stays, newest}
 use Rattle.pe_frames.proofs.Subtrees.{under-other}
-use Rattle.pe_frames.proofs.Upward.{IsWithin}
 use Rattle.pe_frames.proofs.Under.{tree-forest, handles-live, handles-all, handles-once}
 
 some_same : {A : Type 0} {a b : A} → Some a ≡ Some b → a ≡ b
