@@ -1,5 +1,5 @@
 -- What is so of every tree of frames.
-use Rattle.std.proofs.Common.{◌≡◌, ◌⊎◌, inl, inr, ℕ, ◌≤◌, Bool, true, false, cond, List, [], ◌∷◌, Option, None, Some, IsSome, is_some, refl, sym, ap, subst, ◌∙◌, arith, true≢false}
+use Rattle.std.proofs.Common.{◌≡◌, ◌⊎◌, inl, inr, ℕ, ◌≤◌, Bool, true, false, cond, List, [], ◌∷◌, map, Option, None, Some, IsSome, is_some, refl, sym, ap, subst, ◌∙◌, arith, true≢false}
 use Rattle.std.specs.Prelude.{◌↔◌, IsTrue, IsSomeAnd}
 use Rattle.std.specs.Option.{option_map}
 use Rattle.pe_base.specs.declared.limits.TheConstants.{DEPTH_LIMIT}
@@ -7,14 +7,14 @@ use Rattle.pe_arena.specs.declared.handle.Handle.{Handle}
 use Rattle.pe_arena.specs.Slots.{Slots}
 use Rattle.pe_frames.specs.declared.row.Row.{Row}
 use Rattle.pe_frames.specs.Forest.{Entry, Forest, has_handle, same_handle, path, depth_of, entry_of, node_in, is_under, AreFrames, AreGiven}
-use Rattle.pe_frames.specs.Order.{handles_under, AreOnce}
+use Rattle.pe_frames.specs.Order.{in_tree_order, handles_under, docs_under, AreOnce}
 use Rattle.pe_frames.specs.Kept.{Kept, kept, above_in, entry_in, entries_in, AreNodes, AreApart, forest_in, IsForest}
 use Rattle.pe_frames.proofs.Nodes.{same_or_other, found-live}
 use Rattle.pe_frames.proofs.Pages.{Above, above-of, nothing, below, entry-absent}
 use Rattle.pe_frames.proofs.Opened.{mark-seen}
-use Rattle.pe_frames.proofs.Tree.{IsTree, stays, newest}
+use Rattle.pe_frames.proofs.Tree.{Each, IsTree, stays, newest}
 use Rattle.pe_frames.proofs.Subtrees.{under-other}
-use Rattle.pe_frames.proofs.Under.{tree-forest, handles-live, handles-all, handles-once}
+use Rattle.pe_frames.proofs.Under.{tree-forest, handles-live, handles-all, handles-once, frames-live}
 
 some_same : {A : Type 0} {a b : A} → Some a ≡ Some b → a ≡ b
 some_same q = cc
@@ -78,11 +78,19 @@ module _ {D : Type 0} where
       by_entry None f w = absurd w
       by_entry (Some x) f w = by_root x f w (entry_of es root) refl (root-live es are root k x f w)
 
+  -- live frames have the documents that their handles name
+  docs-live : (es xs : List (Entry D)) → Each (λ x. entry_of es x.handle ≡ Some x) xs → map (λ d. Some d) (map (λ (x : Entry D). x.doc) xs) ≡ map (λ k. option_map (λ (e : Entry D). e.doc) (entry_of es k)) (map (λ (x : Entry D). x.handle) xs)
+  docs-live es [] live = refl
+  docs-live es (x ∷ xs) live =
+      ap (λ o. o ∷ map (λ d. Some d) (map (λ (y : Entry D). y.doc) xs)) (sym (ap (option_map (λ (e : Entry D). e.doc)) live.0))
+      ∙ ap (λ os. option_map (λ (e : Entry D). e.doc) (entry_of es x.handle) ∷ os) (docs-live es xs live.1)
+
   -- what a caller sees
   pub record Laws (f : Forest D) : Type 0 where
     pub frames : AreFrames f.entries
     pub given : AreGiven f
     pub under : (root : Handle) (k : Handle) → IsTrue (has_handle k (handles_under f.entries root)) ↔ IsSomeAnd (entry_of f.entries k) (λ e. IsTrue (is_under root e))
+    pub documents : (root : Handle) → map (λ d. Some d) (docs_under f.entries root) ≡ map (λ k. option_map (λ e. e.doc) (entry_of f.entries k)) (handles_under f.entries root)
     pub once : (root : Handle) → AreOnce (handles_under f.entries root)
 
   module _ (s : Slots (Row D)) (order : List Handle) (pages : ℕ) (is : IsForest s order pages) where
@@ -104,5 +112,6 @@ module _ {D : Type 0} where
       frames = frames-forest;
       given = given-forest;
       under = under-live (entries_in (kept s order [])) (tree-forest s order pages is) frames-forest;
+      documents = λ root. docs-live (entries_in (kept s order [])) (in_tree_order (entries_in (kept s order [])) root) (frames-live (entries_in (kept s order [])) (tree-forest s order pages is) root);
       once = handles-once (entries_in (kept s order [])) (tree-forest s order pages is);
     })

@@ -154,7 +154,7 @@ module _ {D : Type 0} where
     pub below : (e.above ≡ []) ⊎ ((p : Handle) × IsSomeAnd (entry_of es p) (λ a. e.above ≡ path a))
     pub shallow : depth_of e ≤ DEPTH_LIMIT
 
-  -- each of the frames was new before those behind it
+  -- a tree of frames: each stands as a new one before those behind it
   abbrev pub AreFrames : List (Entry D) → Type 0
   AreFrames [] = ⊤
   AreFrames (e ∷ es) = IsNewest es e × AreFrames es

@@ -10,5 +10,8 @@ returns-clause-given g c = (laws-forest c.self.inside.rows c.self.inside.order.i
 pub returns-clause-under : goal.returns-clause-under
 returns-clause-under g c = (laws-forest c.self.inside.rows c.self.inside.order.items c.self.inside.pages c.self.invariant c.args.self.now c.self.view_is).under
 
+pub returns-clause-documents : goal.returns-clause-documents
+returns-clause-documents g c = (laws-forest c.self.inside.rows c.self.inside.order.items c.self.inside.pages c.self.invariant c.args.self.now c.self.view_is).documents
+
 pub returns-clause-once : goal.returns-clause-once
 returns-clause-once g c = (laws-forest c.self.inside.rows c.self.inside.order.items c.self.inside.pages c.self.invariant c.args.self.now c.self.view_is).once
