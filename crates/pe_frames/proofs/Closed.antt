@@ -51,6 +51,10 @@ module _ {D : Type 0} where
   node_some None p = p
   node_some (Some e) p = refl
 
+  -- a live frame has a row
+  pub row-lives : (s : Slots (Row D)) (order : List Handle) (pages : ℕ) → IsForest s order pages → (k : Handle) → IsSome (entry_of (entries_in (kept s order [])) k) → IsSome (live s k)
+  row-lives s order pages is k p = some_row (live s k) (subst IsSome (sym (found-live s order k is.listed is.nodes)) (node_some (entry_of (entries_in (kept s order [])) k) p))
+
   module _ (s : Slots (Row D)) (order : List Handle) (pages : ℕ) (is : IsForest s order pages) (h : Handle) (e : Entry D) (found : entry_of (entries_in (kept s order [])) h ≡ Some e) where
     -- the frames that go
     leaves-closed : Leaves s order (handles_under (entries_in (kept s order [])) h) (λ x. not (is_under h x)) (top_of e)
@@ -64,9 +68,6 @@ module _ {D : Type 0} where
           rooted = λ k x p f q g. sym (child-goes es tree h e found k x p f q (not_same (same_handle k h) (λ t. true≢false (sym (root-goes es tree h e found) ∙ ap (λ j. has_handle j (handles_under es h)) (sym ((same_handle-Decides k h).0 t)) ∙ g)))) ∙ g;
           page = λ x f t. page-goes es tree h e found x.handle x f t;
         }
-
-    row-lives : (k : Handle) → IsSome (entry_of (entries_in (kept s order [])) k) → IsSome (live s k)
-    row-lives k p = some_row (live s k) (subst IsSome (sym (found-live s order k is.listed is.nodes)) (node_some (entry_of (entries_in (kept s order [])) k) p))
 
     -- no more frames go than the page has
     pub few-go : length (handles_under (entries_in (kept s order [])) h) ≤ 256
@@ -87,7 +88,7 @@ module _ {D : Type 0} where
             let b = born (kept s order []) p k is.nodes is.apart t in
             let x = frame-of (entry_of (entries_in (kept s order [])) k) b.node (entries-nodes (kept s order []) k is.nodes ∙ b.found) in
             let par = ap (λ (n : Node D). n.parent) x.node ∙ b.parent in (
-              row-lives k (ap is_some x.found),
+              row-lives s order pages is k (ap is_some x.found),
               child-goes (entries_in (kept s order [])) (tree-forest s order pages is) h e found k x.entry p x.found par other
                   ∙ parent-stays (entries_in (kept s order [])) (tree-forest s order pages is) h e found p q,
             )
@@ -190,7 +191,7 @@ module _ {D : Type 0} where
       pub parent-lives : IfSome (parent_of e) (λ k. IsSome (live two k))
       parent-lives = if_each (λ k. IsSome (live two k)) (parent_of e) (λ p q.
           let a = embedder-of (entries_in (kept s order [])) (tree-forest s order pages is) h e found h e p found q in
-          lives-two p (row-lives p (ap is_some a.found), parent-stays (entries_in (kept s order [])) (tree-forest s order pages is) h e found p q))
+          lives-two p (row-lives s order pages is p (ap is_some a.found), parent-stays (entries_in (kept s order [])) (tree-forest s order pages is) h e found p q))
 
       module _ (three : Slots (Row D)) (mended : Rewrites two three (unlinked (links_in (entries_in (kept s order [])) h (parent_of e)) (parent_of e))) where
         -- the row of the page's top frame
