@@ -275,10 +275,10 @@ module _ {D : Type 0} where
       -- the last of the listed is within the root
       pub listed-within : IsWithin es root at
       listed-within = within-of es root at (handles-live es tree root at (
-        ap (has_handle at) so_far.is
-        ∙ has-append at so_far.front (at ∷ so_far.back)
-        ∙ ap (λ b. has_handle at so_far.front || (b || has_handle at so_far.back)) ((same_handle-Decides at at).1 refl)
-        ∙ or_true (has_handle at so_far.front)))
+          ap (has_handle at) so_far.is
+          ∙ has-append at so_far.front (at ∷ so_far.back)
+          ∙ ap (λ b. has_handle at so_far.front || (b || has_handle at so_far.back)) ((same_handle-Decides at at).1 refl)
+          ∙ or_true (has_handle at so_far.front)))
         where
           or_true : (b : Bool) → (b || true) ≡ true
           or_true true = refl

@@ -70,7 +70,7 @@ module _ {D : Type 0} where
   stays : (x : Kept D) (xs : List (Kept D)) → AreNodes xs → node_at xs x.handle ≡ None → (k : Handle) (e : Entry D) → entry_of (entries_in xs) k ≡ Some e → entry_of (entries_in (x ∷ xs)) k ≡ Some e
   stays x xs are none k e f =
       let other : same_handle x.handle k ≡ false = not_same (same_handle x.handle k) (λ t.
-          true≢false (sym (ap is_some f) ∙ ap is_some (ap (entry_of (entries_in xs)) (sym ((same_handle-Decides x.handle k).0 t)) ∙ entry-absent xs x.handle are none))) in
+      true≢false (sym (ap is_some f) ∙ ap is_some (ap (entry_of (entries_in xs)) (sym ((same_handle-Decides x.handle k).0 t)) ∙ entry-absent xs x.handle are none))) in
       ap (λ b. cond b (Some (entry_in (entries_in xs) x)) (entry_of (entries_in xs) k)) other ∙ f
 
   -- the newest frame is live

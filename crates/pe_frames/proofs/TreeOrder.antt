@@ -161,7 +161,7 @@ module _ {D : Type 0} where
         let b = walks-below n e cs next.1 k t in
         let same : u.entry ≡ b.entry = some_same (sym u.found ∙ b.found) in
         let ways : path e ++ c.handle ∷ u.rest ≡ path e ++ b.child ∷ b.rest =
-            sym (append_assoc (path e) (c.handle ∷ []) u.rest) ∙ ap (λ ks. (ks ++ c.handle ∷ []) ++ u.rest) (sym next.0.above) ∙ sym u.is ∙ ap path same ∙ b.is in
+        sym (append_assoc (path e) (c.handle ∷ []) u.rest) ∙ ap (λ ks. (ks ++ c.handle ∷ []) ++ u.rest) (sym next.0.above) ∙ sym u.is ∙ ap path same ∙ b.is in
         let heads : c.handle ∷ u.rest ≡ b.child ∷ b.rest = append_cancel_left (path e) (c.handle ∷ u.rest) (b.child ∷ b.rest) ways in
         let one : c.handle ≡ b.child = head_same heads in
         true≢false (sym b.listed ∙ ap (λ j. has_handle j (map (λ (x : Entry D). x.handle) cs)) (sym one) ∙ once.0))

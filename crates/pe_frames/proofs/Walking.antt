@@ -65,7 +65,7 @@ module _ {D : Type 0} where
     behind-child : (p : Handle) (c : Entry D) (before behind : List (Entry D)) → children es p ≡ before ++ c ∷ behind → after c.handle (child_handles es p) ≡ head_of (map (λ (x : Entry D). x.handle) behind)
     behind-child p c before behind is =
         let whole : child_handles es p ≡ map (λ (x : Entry D). x.handle) before ++ c.handle ∷ map (λ (x : Entry D). x.handle) behind =
-            ap (map (λ (x : Entry D). x.handle)) is ∙ map-append (λ (x : Entry D). x.handle) before (c ∷ behind) in
+        ap (map (λ (x : Entry D). x.handle)) is ∙ map-append (λ (x : Entry D). x.handle) before (c ∷ behind) in
         ap (after c.handle) whole ∙ after-split (map (λ (x : Entry D). x.handle) before) c.handle (map (λ (x : Entry D). x.handle) behind) (subst AreOnce whole (tree.once p))
 
     -- nothing is behind the root and all below it
