@@ -1,5 +1,5 @@
 -- A frame that another embeds, as it is made step by step.
-use Rattle.std.proofs.Common.{◌≡◌, ◌≢◌, ◌⊎◌, inl, inr, ℕ, ◌+◌, ◌≤◌, Bool, true, false, cond, List, [], ◌∷◌, ◌++◌, Option, None, Some, IsSome, is_some, refl, sym, ap, subst, ◌∙◌, arith, true≢false}
+use Rattle.std.proofs.Common.{◌≡◌, ◌≢◌, ℕ, ◌+◌, ◌≤◌, Bool, true, false, cond, List, [], ◌∷◌, ◌++◌, Option, None, Some, IsSome, is_some, refl, sym, ap, subst, ◌∙◌, arith, true≢false}
 use Rattle.std.specs.Prelude.{IfSome}
 use Rattle.std.specs.Option.{option_map}
 use Rattle.pe_arena.specs.declared.handle.Handle.{Handle}
@@ -8,13 +8,13 @@ use Rattle.pe_arena.proofs.Live.{unlive-next}
 use Rattle.pe_frames.specs.declared.row.Row.{Row}
 use Rattle.pe_frames.specs.declared.node.Node.{Node}
 use Rattle.pe_frames.specs.declared.node.Place.{Place}
-use Rattle.pe_frames.specs.Forest.{Entry, StayDead, same_handle, has_handle, parent_of, top_of, entry_of, node_in, page_size, page_count}
-use Rattle.pe_frames.specs.Order.{is_named, head_of}
+use Rattle.pe_frames.specs.Forest.{StayDead, same_handle, parent_of, top_of, entry_of, node_in, page_size, page_count}
+use Rattle.pe_frames.specs.Order.{head_of}
 use Rattle.pe_frames.specs.Links.{Rewrites, at, young, linked}
-use Rattle.pe_frames.specs.Kept.{kept, shown, node_at, entry_in, entries_in, HasLinks, forest_in, IsForest}
-use Rattle.pe_frames.proofs.Nodes.{same_handle-Decides, same_or_other, kept-live, found-live}
+use Rattle.pe_frames.specs.Kept.{kept, node_at, entry_in, entries_in, HasLinks, forest_in, IsForest}
+use Rattle.pe_frames.proofs.Nodes.{same_handle-Decides, kept-live, found-live}
 use Rattle.pe_frames.proofs.Pages.{entry-absent, not_same}
-use Rattle.pe_frames.proofs.Writes.{Rewrites-one, Rewrites-then, still-live, different}
+use Rattle.pe_frames.proofs.Writes.{Rewrites-one, Rewrites-then, still-live}
 use Rattle.pe_frames.proofs.Below.{IsBelow, IsCounted, IsCounted-below, room_is, node-below, top-entry, pages-below}
 use Rattle.pe_frames.proofs.Kin.{child-absent, childless}
 use Rattle.pe_frames.proofs.Linked.{linked-node, linked-size, grown, grown-node, grown-size, grown-links, links-new, links-old, last-is-child, last-kept}

@@ -1,15 +1,14 @@
 -- The list of frames, through the making of a frame.
-use Rattle.std.proofs.Common.{◌≡◌, ◌≢◌, ◌⊎◌, inl, inr, ℕ, ◌+◌, ◌<◌, ◌≤◌, Bool, true, false, cond, ◌||◌, List, [], ◌∷◌, ◌++◌, map, length, length-set, get_or, Option, None, Some, IsSome, is_some, refl, sym, ap, subst, ◌∙◌, arith, true≢false}
-use Rattle.std.specs.Prelude.{IfSome}
+use Rattle.std.proofs.Common.{◌≡◌, ◌≢◌, ◌⊎◌, inl, inr, ℕ, ◌+◌, ◌<◌, ◌≤◌, Bool, true, false, cond, ◌||◌, List, [], ◌∷◌, ◌++◌, map, length, get_or, Option, None, Some, IsSome, is_some, refl, sym, ap, subst, ◌∙◌, arith, true≢false}
 use Rattle.std.proofs.Math.ListN.{get_or-map}
 use Rattle.pe_arena.specs.declared.handle.Handle.{Handle}
-use Rattle.pe_arena.specs.Slots.{Slot, Slots, live, mark, holding, with_value, IsNext, Updates}
+use Rattle.pe_arena.specs.Slots.{Slot, Slots, live, mark, holding, IsNext, Updates}
 use Rattle.pe_arena.proofs.Live.{unlive-next, mark-holding, mark-le-holding, length-holding}
 use Rattle.std.specs.Option.{option_map}
 use Rattle.pe_frames.specs.declared.row.Row.{Row}
 use Rattle.pe_frames.specs.declared.node.Node.{Node}
-use Rattle.pe_frames.specs.Forest.{Entry, page_size, first_of, top_of, same_handle, has_handle, entry_of, node_in, mark_of, page_count, StayDead}
-use Rattle.pe_frames.specs.Kept.{above_in, Kept, joined, kept, entry_in, entries_in, shown, node_at, AreNodes, AreApart, IsSized, HasLinks, forest_in, IsForest}
+use Rattle.pe_frames.specs.Forest.{Entry, top_of, same_handle, has_handle, entry_of, node_in, mark_of, page_count, StayDead}
+use Rattle.pe_frames.specs.Kept.{Kept, joined, kept, entry_in, entries_in, shown, node_at, AreNodes, AreApart, IsSized, HasLinks, forest_in, IsForest}
 use Rattle.pe_frames.specs.Links.{Rewrites}
 use Rattle.pe_frames.proofs.Writes.{different, mark-kept, slots-kept}
 use Rattle.pe_frames.proofs.Pages.{page-empty, page-more, page-same}

@@ -1,5 +1,5 @@
 -- The top frame of a new page, as it is made step by step.
-use Rattle.std.proofs.Common.{◌≡◌, ◌≢◌, ◌⊎◌, inl, inr, ℕ, ◌+◌, ◌≤◌, ◌<◌, Bool, true, false, cond, List, [], ◌∷◌, ◌++◌, Option, None, Some, IsSome, is_some, refl, sym, ap, subst, ◌∙◌, arith, true≢false}
+use Rattle.std.proofs.Common.{◌≡◌, ◌≢◌, ℕ, ◌+◌, ◌≤◌, cond, List, [], ◌∷◌, ◌++◌, None, Some, is_some, refl, sym, ap, subst, ◌∙◌, arith}
 use Rattle.std.specs.Prelude.{IfSome}
 use Rattle.std.specs.Option.{option_map}
 use Rattle.pe_arena.specs.declared.handle.Handle.{Handle}
@@ -7,9 +7,9 @@ use Rattle.pe_arena.specs.Slots.{Slots, live, mark, holding, with_value, IsNext,
 use Rattle.pe_arena.proofs.Live.{unlive-next}
 use Rattle.pe_frames.specs.declared.row.Row.{Row}
 use Rattle.pe_frames.specs.declared.node.Node.{Node}
-use Rattle.pe_frames.specs.Forest.{Entry, StayDead, same_handle, first_of, last_of, parent_of, top_of, node_in, page_count}
-use Rattle.pe_frames.specs.Links.{Rewrites, at, links_in}
-use Rattle.pe_frames.specs.Kept.{kept, node_at, above_in, entry_in, entries_in, HasLinks, forest_in, IsForest}
+use Rattle.pe_frames.specs.Forest.{StayDead, same_handle}
+use Rattle.pe_frames.specs.Links.{at, links_in}
+use Rattle.pe_frames.specs.Kept.{kept, node_at, entry_in, entries_in, HasLinks, forest_in, IsForest}
 use Rattle.pe_frames.proofs.Nodes.{same_handle-Decides, kept-live}
 use Rattle.pe_frames.proofs.Pages.{not_same}
 use Rattle.pe_frames.proofs.Writes.{Rewrites-one}

@@ -1,4 +1,4 @@
-use Rattle.std.proofs.Common.{◌≡◌, ◌+◌, IsSome, Some, [], ◌∷◌, ◌++◌, arith, ap, ◌∙◌, sym, subst, refl, is_some}
+use Rattle.std.proofs.Common.{◌≡◌, IsSome, Some, [], ◌∷◌, ◌++◌, arith, ap, ◌∙◌, sym, subst, refl, is_some}
 use Rattle.pe_arena.specs.Slots.{live}
 use Rattle.pe_frames.specs.Forest.{Forest, StayDead, entry_of}
 use Rattle.pe_frames.specs.Order.{navigated, docs_under}
