@@ -4,7 +4,7 @@ use Rattle.std.specs.Prelude.{◌==◌, filter, unwrap_or, IsSomeAnd, IfSome}
 use Rattle.std.specs.Option.{option_map}
 use Rattle.std.proofs.lemmas.Bool.Decides.{nat_tests}
 use Rattle.pe_arena.specs.declared.handle.Handle.{Handle}
-use Rattle.pe_arena.specs.Slots.{Slots, live, mark, with_value, Updates}
+use Rattle.pe_arena.specs.Slots.{Slots, live, mark, Updates}
 use Rattle.pe_arena.proofs.Live.{unlive-next}
 use Rattle.pe_frames.specs.declared.row.Row.{Row}
 use Rattle.pe_frames.specs.declared.node.Node.{Node}

@@ -1,11 +1,10 @@
 -- The handles of children, newest first.
-use Rattle.std.proofs.Common.{◌≡◌, ◌≢◌, ◌⊎◌, inl, inr, Bool, true, false, cond, ◌||◌, List, [], ◌∷◌, ◌++◌, map, Option, None, Some, IsSome, is_some, refl, sym, ap, subst, ◌∙◌, true≢false}
+use Rattle.std.proofs.Common.{◌≡◌, ◌⊎◌, inl, inr, Bool, true, false, cond, ◌||◌, List, [], ◌∷◌, ◌++◌, map, Option, None, Some, is_some, refl, sym, ap, ◌∙◌, true≢false}
 use Rattle.std.specs.Prelude.{unwrap_or}
-use Rattle.std.specs.Option.{option_map}
 use Rattle.std.proofs.lemmas.List.{map-append}
 use Rattle.pe_arena.specs.declared.handle.Handle.{Handle}
 use Rattle.pe_frames.specs.declared.node.Node.{Node}
-use Rattle.pe_frames.specs.Forest.{Entry, same_handle, has_handle, last_of, parent_of, node_in}
+use Rattle.pe_frames.specs.Forest.{Entry, same_handle, has_handle, last_of, parent_of}
 use Rattle.pe_frames.specs.Order.{is_named, head_of, after, is_child, children, child_handles}
 use Rattle.pe_frames.specs.Links.{before, young}
 use Rattle.pe_frames.specs.Kept.{Kept, node_at, entry_in, entries_in, AreNodes, AreApart, AreOnce}

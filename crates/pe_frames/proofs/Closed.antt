@@ -1,31 +1,28 @@
 -- A frame that is closed with all below it, step by step.
-use Rattle.std.proofs.Common.{◌≡◌, ◌≢◌, ◌⊎◌, inl, inr, ℕ, suc, ◌+◌, ◌-◌, ◌≤◌, Bool, true, false, cond, ◌||◌, ◌&&◌, List, [], ◌∷◌, length, Option, None, Some, IsSome, is_some, is_none, refl, sym, ap, subst, ◌∙◌, arith, true≢false}
+use Rattle.std.proofs.Common.{◌≡◌, inl, inr, ℕ, ◌+◌, ◌-◌, ◌≤◌, Bool, true, false, cond, ◌||◌, ◌&&◌, List, [], ◌∷◌, length, Option, None, Some, IsSome, is_some, is_none, refl, sym, ap, subst, ◌∙◌, arith, true≢false}
 use Rattle.std.specs.Prelude.{◌==◌, filter, not, IfSome}
 use Rattle.std.specs.Option.{option_map}
 use Rattle.std.proofs.lemmas.Bool.Decides.{Decides-eqb}
-use Rattle.pe_base.specs.declared.limits.TheConstants.{DEPTH_LIMIT}
 use Rattle.pe_arena.specs.declared.handle.Handle.{Handle}
 use Rattle.pe_arena.specs.Slots.{Slots, live}
 use Rattle.pe_frames.specs.declared.row.Row.{Row}
-use Rattle.pe_frames.specs.declared.row.Links.{Links}
 use Rattle.pe_frames.specs.declared.node.Node.{Node}
-use Rattle.pe_frames.specs.Forest.{Entry, path, first_of, last_of, same_handle, has_handle, entry_of, node_in, parent_of, top_of, is_top, is_under, page_size, page_count, IsDead, StayDead}
+use Rattle.pe_frames.specs.Forest.{Entry, first_of, last_of, same_handle, has_handle, entry_of, node_in, parent_of, top_of, is_top, is_under, page_count, IsDead, StayDead}
 use Rattle.pe_frames.specs.Order.{is_named, after, handles_under, closed}
 use Rattle.pe_frames.specs.Links.{before, siblings, links_in, at, unlinked, smaller, Rewrites, Removes}
-use Rattle.pe_frames.specs.Kept.{kept, shown, node_at, entries_in, HasLinks, Sweeps, forest_in, IsForest}
-use Rattle.pe_frames.proofs.Nodes.{same_handle-Decides, same_or_other, kept-live, found-live, entries-nodes}
+use Rattle.pe_frames.specs.Kept.{kept, entries_in, HasLinks, Sweeps, forest_in, IsForest}
+use Rattle.pe_frames.proofs.Nodes.{same_handle-Decides, same_or_other, found-live, entries-nodes}
 use Rattle.pe_frames.proofs.Pages.{not_same, top-found}
-use Rattle.pe_frames.proofs.Sizes.{TopRow, TopRow-live}
+use Rattle.pe_frames.proofs.Sizes.{TopRow-live}
 use Rattle.pe_frames.proofs.Below.{entry-handle}
 use Rattle.pe_frames.proofs.Upward.{above-none}
 use Rattle.pe_frames.proofs.Children.{born}
 use Rattle.pe_frames.proofs.Writes.{Rewrites-then, SameMarks-then}
-use Rattle.pe_frames.proofs.Tree.{IsTree}
 use Rattle.pe_frames.proofs.Under.{tree-forest, handles-live, handles-once}
 use Rattle.pe_frames.proofs.Cuts.{frame-of, IsForest-cut, entries-cut, StayDead-cut, IsDead-cut}
 use Rattle.pe_frames.proofs.Without.{after-itself, before-itself}
 use Rattle.pe_frames.proofs.Within.{goes-under, root-goes, parent-stays, child-goes, top-goes, page-goes, embedder-of}
-use Rattle.pe_frames.proofs.Unlinked.{at-keeps, unlinked-node, unlinked-size, child-listed, siblings-once, sibling-parent, after-has, before-has, links-closed}
+use Rattle.pe_frames.proofs.Unlinked.{at-keeps, unlinked-node, unlinked-size, child-listed, siblings-once, after-has, before-has, links-closed}
 use Rattle.pe_frames.proofs.Leaving.{Changes, stayed, Leaves, page-less, pages-same, pages-one, IsCut-left, sized-left}
 
 some_same : {A : Type 0} {a b : A} → Some a ≡ Some b → a ≡ b
@@ -51,6 +48,10 @@ module _ {D : Type 0} where
   node_some None p = p
   node_some (Some e) p = refl
 
+  -- a live frame has a row
+  pub row-lives : (s : Slots (Row D)) (order : List Handle) (pages : ℕ) → IsForest s order pages → (k : Handle) → IsSome (entry_of (entries_in (kept s order [])) k) → IsSome (live s k)
+  row-lives s order pages is k p = some_row (live s k) (subst IsSome (sym (found-live s order k is.listed is.nodes)) (node_some (entry_of (entries_in (kept s order [])) k) p))
+
   module _ (s : Slots (Row D)) (order : List Handle) (pages : ℕ) (is : IsForest s order pages) (h : Handle) (e : Entry D) (found : entry_of (entries_in (kept s order [])) h ≡ Some e) where
     -- the frames that go
     leaves-closed : Leaves s order (handles_under (entries_in (kept s order [])) h) (λ x. not (is_under h x)) (top_of e)
@@ -64,9 +65,6 @@ module _ {D : Type 0} where
           rooted = λ k x p f q g. sym (child-goes es tree h e found k x p f q (not_same (same_handle k h) (λ t. true≢false (sym (root-goes es tree h e found) ∙ ap (λ j. has_handle j (handles_under es h)) (sym ((same_handle-Decides k h).0 t)) ∙ g)))) ∙ g;
           page = λ x f t. page-goes es tree h e found x.handle x f t;
         }
-
-    row-lives : (k : Handle) → IsSome (entry_of (entries_in (kept s order [])) k) → IsSome (live s k)
-    row-lives k p = some_row (live s k) (subst IsSome (sym (found-live s order k is.listed is.nodes)) (node_some (entry_of (entries_in (kept s order [])) k) p))
 
     -- no more frames go than the page has
     pub few-go : length (handles_under (entries_in (kept s order [])) h) ≤ 256
@@ -87,7 +85,7 @@ module _ {D : Type 0} where
             let b = born (kept s order []) p k is.nodes is.apart t in
             let x = frame-of (entry_of (entries_in (kept s order [])) k) b.node (entries-nodes (kept s order []) k is.nodes ∙ b.found) in
             let par = ap (λ (n : Node D). n.parent) x.node ∙ b.parent in (
-              row-lives k (ap is_some x.found),
+              row-lives s order pages is k (ap is_some x.found),
               child-goes (entries_in (kept s order [])) (tree-forest s order pages is) h e found k x.entry p x.found par other
                   ∙ parent-stays (entries_in (kept s order [])) (tree-forest s order pages is) h e found p q,
             )
@@ -164,8 +162,8 @@ module _ {D : Type 0} where
         by_parent None q = pages-one s order pages is (handles_under (entries_in (kept s order [])) h) (λ x. not (is_under h x)) (top_of e) leaves-closed h (ap is_some found) (one-top q)
         by_parent (Some p) q =
             let same = pages-same s order pages is (handles_under (entries_in (kept s order [])) h) (λ x. not (is_under h x)) (top_of e) leaves-closed (λ x f t. not_same (is_top x) (λ top.
-                let xe = below-top x f t top in
-                true≢false (sym (ap is_some (sym (top-none x.above top) ∙ ap (λ (y : Entry D). parent_of y) xe ∙ q))))) in
+            let xe = below-top x f t top in
+            true≢false (sym (ap is_some (sym (top-none x.above top) ∙ ap (λ (y : Entry D). parent_of y) xe ∙ q))))) in
             omega (arith, same)
 
     module _ (below : List Handle) (all : h ∷ below ≡ handles_under (entries_in (kept s order [])) h) (one two : Slots (Row D)) (taken : Removes s one (h ∷ [])) (emptied : Removes one two below) where
@@ -190,7 +188,7 @@ module _ {D : Type 0} where
       pub parent-lives : IfSome (parent_of e) (λ k. IsSome (live two k))
       parent-lives = if_each (λ k. IsSome (live two k)) (parent_of e) (λ p q.
           let a = embedder-of (entries_in (kept s order [])) (tree-forest s order pages is) h e found h e p found q in
-          lives-two p (row-lives p (ap is_some a.found), parent-stays (entries_in (kept s order [])) (tree-forest s order pages is) h e found p q))
+          lives-two p (row-lives s order pages is p (ap is_some a.found), parent-stays (entries_in (kept s order [])) (tree-forest s order pages is) h e found p q))
 
       module _ (three : Slots (Row D)) (mended : Rewrites two three (unlinked (links_in (entries_in (kept s order [])) h (parent_of e)) (parent_of e))) where
         -- the row of the page's top frame
@@ -271,7 +269,7 @@ module _ {D : Type 0} where
               let was = stayed s t (λ j. has_handle j (handles_under es h)) (λ j r. at (page_left e) (smaller n) j (unlinked l (parent_of e) j r)) changes-closed k x f in
               let fr = frame-of (entry_of es k) was.row.node (sym (found-live s order k is.listed is.nodes) ∙ ap (option_map (λ r. r.node)) was.found) in
               let ne : same_handle h k ≡ false = not_same (same_handle h k) (λ t.
-                  true≢false (sym (root-goes es (tree-forest s order pages is) h e found) ∙ ap (λ j. has_handle j (handles_under es h)) ((same_handle-Decides h k).0 t) ∙ was.here)) in
+              true≢false (sym (root-goes es (tree-forest s order pages is) h e found) ∙ ap (λ j. has_handle j (handles_under es h)) ((same_handle-Decides h k).0 t) ∙ was.here)) in
               subst (HasLinks (filter (λ y. not (is_under h y)) es) k) was.is
               (shrunk-links (filter (λ y. not (is_under h y)) es) (is_named (page_left e) k) n k (unlinked l (parent_of e) k was.row)
               (links-closed (kept s order []) is.nodes is.apart h e found (tree-forest s order pages is) k fr.entry fr.found ne was.here was.row (sym (ap (λ (m : Node D). m.parent) fr.node)) (is.linked k was.row was.found)))

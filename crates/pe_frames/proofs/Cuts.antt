@@ -1,7 +1,7 @@
 -- Frames that were cut off with all below them.
-use Rattle.std.proofs.Common.{◌≡◌, ◌⊎◌, inl, inr, ℕ, ◌+◌, ◌<◌, ◌≤◌, Bool, true, false, cond, ◌||◌, ◌&&◌, List, [], ◌∷◌, length, map, get_or, Option, None, Some, IsSome, is_some, refl, sym, ap, subst, ◌∙◌, arith, true≢false}
+use Rattle.std.proofs.Common.{◌≡◌, ◌⊎◌, inl, inr, ℕ, ◌+◌, ◌≤◌, Bool, true, false, cond, ◌||◌, ◌&&◌, List, [], ◌∷◌, length, map, get_or, Option, None, Some, IsSome, is_some, refl, sym, ap, subst, ◌∙◌, arith, true≢false}
 use Rattle.std.specs.Prelude.{filter, not, unwrap_or}
-use Rattle.std.specs.Option.{option_map, option_and_then}
+use Rattle.std.specs.Option.{option_map}
 use Rattle.std.proofs.Math.ListN.{get_or-map}
 use Rattle.pe_arena.specs.declared.handle.Handle.{Handle}
 use Rattle.pe_arena.specs.Slots.{Slot, Slots, live, mark}
@@ -12,7 +12,7 @@ use Rattle.pe_frames.specs.Links.{SameMarks}
 use Rattle.pe_frames.specs.Kept.{Kept, joined, kept, shown, node_at, above_in, entry_in, entries_in, AreNodes, AreApart, AreOnce, IsSized, HasLinks, Sweeps, forest_in, IsForest}
 use Rattle.pe_frames.proofs.Nodes.{same_handle-Decides, same_or_other, entries-nodes, found-live}
 use Rattle.pe_frames.proofs.Pages.{entry-absent, not_same}
-use Rattle.pe_frames.proofs.Tree.{Each, each-map}
+use Rattle.pe_frames.proofs.Tree.{Each}
 use Rattle.pe_frames.proofs.Writes.{mark-kept, slots-kept}
 
 some_same : {A : Type 0} {a b : A} → Some a ≡ Some b → a ≡ b
@@ -101,7 +101,7 @@ module _ {D : Type 0} where
       let one = count-one xs are apart k (alive k (ap (λ b. b || has_handle k ks) ((same_handle-Decides k k).1 refl))) in
       let rest = count-named xs are apart ks once.1 (λ j t. alive j (ap (λ b. same_handle k j || b) t ∙ or_true (same_handle k j))) in
       let both = count-either (λ (e : Entry D). same_handle k e.handle) (λ (e : Entry D). has_handle e.handle ks) (entries_in xs)
-          (each-live (λ e. (same_handle k e.handle && has_handle e.handle ks) ≡ false) xs are apart (λ e f. not_both e.handle)) in
+      (each-live (λ e. (same_handle k e.handle && has_handle e.handle ks) ≡ false) xs are apart (λ e f. not_both e.handle)) in
       omega (arith, one, rest, both)
     where
       or_true : (b : Bool) → (b || true) ≡ true

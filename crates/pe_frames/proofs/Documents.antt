@@ -1,5 +1,5 @@
 -- The documents of the frames within a subtree.
-use Rattle.std.proofs.Common.{◌≡◌, ℕ, Bool, true, false, cond, ◌||◌, List, [], ◌∷◌, ◌++◌, map, Option, None, Some, is_some, refl, sym, ap, ◌∙◌, true≢false}
+use Rattle.std.proofs.Common.{◌≡◌, ℕ, Bool, true, false, ◌||◌, List, [], ◌∷◌, ◌++◌, map, Option, None, Some, is_some, refl, sym, ap, ◌∙◌, true≢false}
 use Rattle.std.specs.Option.{option_map}
 use Rattle.pe_arena.specs.declared.handle.Handle.{Handle}
 use Rattle.pe_arena.specs.Slots.{Slots, live}

@@ -1,16 +1,16 @@
 -- Parents and children that live.
-use Rattle.std.proofs.Common.{◌≡◌, ◌≢◌, ◌⊎◌, inl, inr, Bool, true, false, cond, ◌||◌, List, [], ◌∷◌, ◌++◌, Option, None, Some, IsSome, is_some, refl, sym, ap, subst, ◌∙◌, true≢false}
+use Rattle.std.proofs.Common.{◌≡◌, ◌≢◌, Bool, true, false, cond, List, [], ◌∷◌, Option, None, Some, IsSome, is_some, refl, sym, ap, ◌∙◌, true≢false}
 use Rattle.std.specs.Option.{option_map}
 use Rattle.pe_arena.specs.declared.handle.Handle.{Handle}
 use Rattle.pe_frames.specs.declared.node.Node.{Node}
-use Rattle.pe_frames.specs.Forest.{Entry, same_handle, has_handle, last_of, path, parent_of, entry_of, node_in, node_of}
+use Rattle.pe_frames.specs.Forest.{Entry, same_handle, has_handle, last_of, parent_of, entry_of, node_in}
 use Rattle.pe_frames.specs.Order.{is_named, head_of, after, is_child, child_handles, next_child_of}
 use Rattle.pe_frames.specs.Links.{before, young, siblings}
 use Rattle.pe_frames.specs.Kept.{Kept, node_at, above_in, entry_in, entries_in, AreNodes, AreApart, AreOnce, standing_in}
-use Rattle.pe_frames.proofs.Nodes.{same_handle-Decides, same_or_other, entries-nodes}
+use Rattle.pe_frames.proofs.Nodes.{same_handle-Decides, entries-nodes}
 use Rattle.pe_frames.proofs.Pages.{Above, above-of, nothing, below, entry-absent, not_same}
 use Rattle.pe_frames.proofs.Below.{last-push, entry-handle}
-use Rattle.pe_frames.proofs.Children.{IsBornOf, born, first-child, later-child, later-none, children-turned, turned}
+use Rattle.pe_frames.proofs.Children.{born, first-child, later-child, later-none}
 
 module _ {D : Type 0} where
   absent_node : (o : Option (Entry D)) → o ≡ None → option_map node_in o ≡ None

@@ -1,12 +1,12 @@
 -- The rows and the pages, once the frames of some handles left.
-use Rattle.std.proofs.Common.{◌≡◌, ◌⊎◌, inl, inr, ℕ, ◌+◌, ◌-◌, ◌≤◌, Bool, true, false, cond, ◌||◌, ◌&&◌, List, [], ◌∷◌, length, Option, None, Some, IsSome, is_some, refl, sym, ap, subst, ◌∙◌, arith, true≢false}
+use Rattle.std.proofs.Common.{◌≡◌, ℕ, ◌+◌, ◌-◌, ◌≤◌, Bool, true, false, cond, ◌||◌, ◌&&◌, List, [], ◌∷◌, length, Option, None, Some, IsSome, is_some, refl, sym, ap, subst, ◌∙◌, arith, true≢false}
 use Rattle.std.specs.Prelude.{filter, not}
 use Rattle.std.specs.Option.{option_map}
 use Rattle.pe_arena.specs.declared.handle.Handle.{Handle}
 use Rattle.pe_arena.specs.Slots.{Slots, live}
 use Rattle.pe_frames.specs.declared.row.Row.{Row}
 use Rattle.pe_frames.specs.declared.node.Node.{Node}
-use Rattle.pe_frames.specs.Forest.{Entry, same_handle, has_handle, entry_of, node_in, parent_of, top_of, is_top, page_size, page_count}
+use Rattle.pe_frames.specs.Forest.{Entry, same_handle, has_handle, entry_of, parent_of, top_of, is_top, page_size, page_count}
 use Rattle.pe_frames.specs.Order.{is_named}
 use Rattle.pe_frames.specs.Links.{SameMarks}
 use Rattle.pe_frames.specs.Kept.{kept, shown, entries_in, AreOnce, IsSized, IsForest}
@@ -72,7 +72,7 @@ module _ {D : Type 0} where
     pub page-other : (k : Handle) → same_handle top k ≡ false → page_size (entries_in (kept s order [])) k ≡ page_size (filter stays (entries_in (kept s order []))) k
     page-other k other =
         let same = count-less (kept s order []) is.nodes is.apart (λ (x : Entry D). same_handle (top_of x) k) stays [] tt (λ j t. absurd (true≢false (sym t)))
-            (λ x f. ap (λ b. same_handle (top_of x) k && not b) (leaves.agree x f) ∙ by_test x (has_handle x.handle ks) (λ t. leaves.page x f t)) in
+        (λ x f. ap (λ b. same_handle (top_of x) k && not b) (leaves.agree x f) ∙ by_test x (has_handle x.handle ks) (λ t. leaves.page x f t)) in
         omega (arith, same)
       where
         none : (c : Bool) → (c && false) ≡ false
@@ -87,7 +87,7 @@ module _ {D : Type 0} where
     pub pages-same : ((x : Entry D) → entry_of (entries_in (kept s order [])) x.handle ≡ Some x → has_handle x.handle ks ≡ true → is_top x ≡ false) → page_count (entries_in (kept s order [])) ≡ page_count (filter stays (entries_in (kept s order [])))
     pages-same low =
         let same = count-less (kept s order []) is.nodes is.apart is_top stays [] tt (λ j t. absurd (true≢false (sym t)))
-            (λ x f. ap (λ b. is_top x && not b) (leaves.agree x f) ∙ by_test x (has_handle x.handle ks) (λ t. low x f t)) in
+        (λ x f. ap (λ b. is_top x && not b) (leaves.agree x f) ∙ by_test x (has_handle x.handle ks) (λ t. low x f t)) in
         omega (arith, same)
       where
         none : (c : Bool) → (c && false) ≡ false

@@ -1,6 +1,5 @@
 -- The links of rows, through the making of a frame.
-use Rattle.std.proofs.Common.{◌≡◌, ◌≢◌, ◌⊎◌, inl, inr, ℕ, ◌+◌, Bool, true, false, cond, ◌||◌, List, [], ◌∷◌, Option, None, Some, IsSome, is_some, is_none, refl, sym, ap, subst, ◌∙◌, true≢false}
-use Rattle.std.specs.Prelude.{unwrap_or}
+use Rattle.std.proofs.Common.{◌≡◌, ◌≢◌, inl, inr, ◌+◌, Bool, true, false, cond, ◌||◌, List, [], ◌∷◌, Option, None, Some, IsSome, is_some, is_none, refl, sym, ap, ◌∙◌, true≢false}
 use Rattle.pe_arena.specs.declared.handle.Handle.{Handle}
 use Rattle.pe_frames.specs.declared.row.Row.{Row}
 use Rattle.pe_frames.specs.declared.row.Links.{Links}
@@ -11,7 +10,7 @@ use Rattle.pe_frames.specs.Links.{before, links_by, young, siblings, links_in, a
 use Rattle.pe_frames.specs.Kept.{Kept, node_at, entries_in, AreNodes, AreApart, HasLinks}
 use Rattle.pe_frames.proofs.Nodes.{same_handle-Decides, same_or_other}
 use Rattle.pe_frames.proofs.Pages.{not_same}
-use Rattle.pe_frames.proofs.Children.{IsBornOf, born, head-absent, before-absent, is_named-of}
+use Rattle.pe_frames.proofs.Children.{born, head-absent, before-absent, is_named-of}
 
 head-has : (j : Handle) (ks : List Handle) → is_named (head_of ks) j ≡ true → has_handle j ks ≡ true
 head-has j [] e = absurd (true≢false (sym e))

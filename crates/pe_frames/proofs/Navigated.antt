@@ -1,5 +1,5 @@
 -- A frame that is navigated: it shows another document, and those below it go.
-use Rattle.std.proofs.Common.{◌≡◌, ◌≢◌, ◌⊎◌, inl, inr, ℕ, suc, ◌+◌, ◌-◌, ◌≤◌, Bool, true, false, cond, ◌||◌, ◌&&◌, List, [], ◌∷◌, ◌++◌, map, length, Option, None, Some, IsSome, is_some, is_none, refl, sym, ap, subst, ◌∙◌, arith, true≢false}
+use Rattle.std.proofs.Common.{◌≡◌, inl, inr, ℕ, ◌-◌, ◌≤◌, Bool, true, false, cond, ◌||◌, List, [], ◌∷◌, map, length, Option, None, Some, IsSome, is_some, refl, sym, ap, subst, ◌∙◌, arith, true≢false}
 use Rattle.std.specs.Prelude.{◌==◌, filter, not, IfSome}
 use Rattle.std.specs.Option.{option_map}
 use Rattle.std.proofs.lemmas.Bool.Decides.{Decides-eqb}
@@ -9,21 +9,23 @@ use Rattle.pe_frames.specs.declared.row.Row.{Row}
 use Rattle.pe_frames.specs.declared.row.Links.{Links}
 use Rattle.pe_frames.specs.declared.row.Standing.{Standing}
 use Rattle.pe_frames.specs.declared.node.Node.{Node}
-use Rattle.pe_frames.specs.Forest.{Forest, Entry, first_of, last_of, same_handle, has_handle, entry_of, node_in, parent_of, top_of, is_top, is_under, page_size, page_count, redone, with_doc, IsDead, StayDead}
+use Rattle.pe_frames.specs.Forest.{Forest, Entry, last_of, same_handle, has_handle, entry_of, parent_of, top_of, is_top, is_under, redone, IsDead, StayDead}
 use Rattle.pe_frames.specs.Order.{is_named, handles_under, docs_under, navigated}
-use Rattle.pe_frames.specs.Links.{links_by, young, siblings, links_in, at, smaller, renewed, doc_before, docs_at, SameMarks, Rewrites, Removes}
-use Rattle.pe_frames.specs.Kept.{kept, shown, entries_in, HasLinks, Sweeps, forest_in, IsForest}
+use Rattle.pe_frames.specs.Links.{links_by, young, siblings, at, smaller, renewed, doc_before, docs_at, SameMarks, Rewrites, Removes}
+use Rattle.pe_frames.specs.Kept.{kept, entries_in, standing_in, HasLinks, Sweeps, forest_in, IsForest}
 use Rattle.pe_frames.proofs.Nodes.{same_handle-Decides, same_or_other, found-live}
 use Rattle.pe_frames.proofs.Pages.{not_same, top-found}
-use Rattle.pe_frames.proofs.Sizes.{TopRow, TopRow-live}
-use Rattle.pe_frames.proofs.Writes.{Rewrites-one, Rewrites-then, SameMarks-then, if_some}
+use Rattle.pe_frames.proofs.Sizes.{TopRow-live}
+use Rattle.pe_frames.proofs.Writes.{Rewrites-one, SameMarks-then}
 use Rattle.pe_frames.proofs.Written.{entry_of-redone, young-redone, IsForest-written, forest-written}
 use Rattle.pe_frames.proofs.Tree.{Each}
 use Rattle.pe_frames.proofs.Under.{tree-forest, handles-live}
 use Rattle.pe_frames.proofs.Cuts.{each-live, frame-of, IsForest-cut, entries-cut, StayDead-cut, IsDead-cut}
-use Rattle.pe_frames.proofs.Within.{goes-under, root-goes, parent-stays, child-goes, child-of-root, top-goes, page-goes, young-stays, children-same, children-none}
+use Rattle.pe_frames.proofs.Within.{goes-under, parent-stays, child-goes, top-goes, page-goes, young-stays, children-same, children-none}
 use Rattle.pe_frames.proofs.Unlinked.{at-keeps}
 use Rattle.pe_frames.proofs.Leaving.{Changes, stayed, Leaves, page-less, pages-same, IsCut-left, sized-left}
+use Rattle.pe_frames.proofs.Standings.{stands-at}
+use Rattle.pe_frames.proofs.Closed.{row-lives}
 use Rattle.pe_frames.proofs.Documents.{docs-same, docs-below}
 use Rattle.pe_frames.proofs.Closing.{LeavesAt, root-once, once-left}
 
@@ -82,6 +84,24 @@ module _ {D : Type 0} where
 
   turn-marks : (a b : Slots (Row D)) → SameMarks a b → SameMarks b a
   turn-marks a b same = record { marks = sym same.marks; made = sym same.made; limit = sym same.limit; first = sym same.first }
+
+  -- the row of the frame
+  pub record RowAt (s : Slots (Row D)) (h : Handle) : Type 0 where
+    pub row : Row D
+    pub found : live s h ≡ Some row
+
+  pub row-at : (s : Slots (Row D)) (order : List Handle) (pages : ℕ) → IsForest s order pages → (h : Handle) → IsSome (entry_of (entries_in (kept s order [])) h) → RowAt s h
+  row-at s order pages is h p = by_row (live s h) refl (row-lives s order pages is h p)
+    where
+      by_row : (o : Option (Row D)) → live s h ≡ o → IsSome o → RowAt s h
+      by_row None f q = absurd (true≢false (sym q))
+      by_row (Some r) f q = record { row = r; found = f }
+
+  -- the frame that stands here has a row
+  pub live-here : (s : Slots (Row D)) (order : List Handle) (pages : ℕ) → IsForest s order pages → (f : Forest D) → forest_in s order ≡ f → (h : Handle) (o : Option Standing) (here : Standing) → o ≡ Some here → o ≡ option_map (standing_in f.entries h) (entry_of f.entries h) → IsSome (live s h)
+  live-here s order pages is f view h o here some value =
+      let at = stands-at (entries_in (kept s order [])) h o here some (subst (λ (g : Forest D). o ≡ option_map (standing_in g.entries h) (entry_of g.entries h)) (sym view) value) in
+      row-lives s order pages is h (ap is_some at.found)
 
   module _ (s : Slots (Row D)) (order : List Handle) (pages : ℕ) (is : IsForest s order pages) (h : Handle) (here : Standing) (below : List Handle) (leaves : LeavesAt s order h here below) (w : D) (r : Row D) (found : live s h ≡ Some r) where
     -- the frames that were, and those with the document

@@ -1,14 +1,14 @@
 -- Where a live frame stands.
-use Rattle.std.proofs.Common.{◌≡◌, ◌⊎◌, inl, inr, ℕ, Bool, true, false, cond, List, [], ◌∷◌, Option, None, Some, IsSome, is_some, refl, sym, ap, subst, ◌∙◌, true≢false}
+use Rattle.std.proofs.Common.{◌≡◌, ℕ, List, [], Option, None, Some, is_some, refl, sym, ap, ◌∙◌, true≢false}
 use Rattle.std.specs.Option.{option_map}
 use Rattle.pe_arena.specs.declared.handle.Handle.{Handle}
 use Rattle.pe_arena.specs.Slots.{Slots, live}
 use Rattle.pe_frames.specs.declared.row.Row.{Row}
 use Rattle.pe_frames.specs.declared.row.Standing.{Standing}
 use Rattle.pe_frames.specs.declared.node.Node.{Node}
-use Rattle.pe_frames.specs.Forest.{Entry, entry_of, node_in, node_of}
+use Rattle.pe_frames.specs.Forest.{Entry, entry_of, node_in}
 use Rattle.pe_frames.specs.Links.{links_in}
-use Rattle.pe_frames.specs.Kept.{kept, shown, entries_in, standing_in, HasLinks, IsForest}
+use Rattle.pe_frames.specs.Kept.{kept, entries_in, standing_in, HasLinks, IsForest}
 use Rattle.pe_frames.proofs.Nodes.{found-live}
 
 module _ {D : Type 0} where

@@ -1,5 +1,5 @@
 -- The links of rows, through the removal of a frame and those below it.
-use Rattle.std.proofs.Common.{◌≡◌, ◌⊎◌, inl, inr, Bool, true, false, cond, ◌||◌, List, [], ◌∷◌, Option, None, Some, IsSome, is_some, is_none, refl, sym, ap, subst, ◌∙◌, true≢false}
+use Rattle.std.proofs.Common.{◌≡◌, inl, inr, Bool, true, false, cond, ◌||◌, List, [], ◌∷◌, Option, None, Some, is_none, refl, sym, ap, ◌∙◌, true≢false}
 use Rattle.std.specs.Prelude.{filter, not}
 use Rattle.std.specs.Option.{option_map}
 use Rattle.pe_base.specs.declared.limits.TheConstants.{DEPTH_LIMIT}
@@ -10,8 +10,8 @@ use Rattle.pe_frames.specs.declared.node.Node.{Node}
 use Rattle.pe_frames.specs.Forest.{Entry, same_handle, has_handle, last_of, entry_of, node_in, parent_of, is_under}
 use Rattle.pe_frames.specs.Order.{is_named, head_of, after, is_child, handles_under}
 use Rattle.pe_frames.specs.Links.{before, links_by, young, siblings, links_in, at, with_first, with_last, with_earlier, with_later, unlinked}
-use Rattle.pe_frames.specs.Kept.{Kept, node_at, entries_in, AreNodes, AreApart, AreOnce, HasLinks}
-use Rattle.pe_frames.proofs.Nodes.{same_handle-Decides, same_or_other, entries-nodes}
+use Rattle.pe_frames.specs.Kept.{Kept, entries_in, AreNodes, AreApart, AreOnce, HasLinks}
+use Rattle.pe_frames.proofs.Nodes.{same_handle-Decides, entries-nodes}
 use Rattle.pe_frames.proofs.Pages.{not_same}
 use Rattle.pe_frames.proofs.Children.{born, before-absent, after-absent, is_named-of}
 use Rattle.pe_frames.proofs.Kin.{children-once}
@@ -182,8 +182,8 @@ module _ {D : Type 0} where
               ∙ sym (after-without h (siblings (entries_in xs) (parent_of x)) (siblings-once (parent_of x)) t k ne)
           | inr u ↦
               ap (λ b. cond b (after h (siblings (entries_in xs) (parent_of e))) (after k (siblings (entries_in xs) (parent_of x)))) (not_same (is_named (before h (siblings (entries_in xs) (parent_of e))) k) (λ t.
-                  let same = sibling-parent k x f (parent_of e) (before-has h k (siblings (entries_in xs) (parent_of e)) t) in
-                  true≢false (sym t ∙ ap (λ o. is_named o k) (ap (λ o. before h (siblings (entries_in xs) o)) (sym same) ∙ before-absent h (siblings (entries_in xs) (parent_of x)) u))))
+              let same = sibling-parent k x f (parent_of e) (before-has h k (siblings (entries_in xs) (parent_of e)) t) in
+              true≢false (sym t ∙ ap (λ o. is_named o k) (ap (λ o. before h (siblings (entries_in xs) o)) (sym same) ∙ before-absent h (siblings (entries_in xs) (parent_of x)) u))))
               ∙ ap (after k) (sym (without-absent h (siblings (entries_in xs) (parent_of x)) u))
         ]
 
@@ -194,8 +194,8 @@ module _ {D : Type 0} where
               ∙ sym (before-without h (siblings (entries_in xs) (parent_of x)) (siblings-once (parent_of x)) t k ne)
           | inr u ↦
               ap (λ b. cond b (before h (siblings (entries_in xs) (parent_of e))) (before k (siblings (entries_in xs) (parent_of x)))) (not_same (is_named (after h (siblings (entries_in xs) (parent_of e))) k) (λ t.
-                  let same = sibling-parent k x f (parent_of e) (after-has h k (siblings (entries_in xs) (parent_of e)) t) in
-                  true≢false (sym t ∙ ap (λ o. is_named o k) (ap (λ o. after h (siblings (entries_in xs) o)) (sym same) ∙ after-absent h (siblings (entries_in xs) (parent_of x)) u))))
+              let same = sibling-parent k x f (parent_of e) (after-has h k (siblings (entries_in xs) (parent_of e)) t) in
+              true≢false (sym t ∙ ap (λ o. is_named o k) (ap (λ o. after h (siblings (entries_in xs) o)) (sym same) ∙ after-absent h (siblings (entries_in xs) (parent_of x)) u))))
               ∙ ap (before k) (sym (without-absent h (siblings (entries_in xs) (parent_of x)) u))
         ]
 

@@ -1,5 +1,5 @@
 -- The frames within a subtree: the root and those below it.
-use Rattle.std.proofs.Common.{◌≡◌, ◌⊎◌, inl, inr, ℕ, ◌+◌, Bool, true, false, cond, ◌||◌, ◌&&◌, List, [], ◌∷◌, ◌++◌, length, length-append, Option, None, Some, is_some, refl, sym, ap, subst, ◌∙◌, arith, true≢false}
+use Rattle.std.proofs.Common.{◌≡◌, ◌⊎◌, inl, inr, Bool, true, false, cond, ◌||◌, List, [], ◌∷◌, ◌++◌, length, length-append, Option, None, Some, refl, sym, ap, subst, ◌∙◌, arith, true≢false}
 use Rattle.std.specs.Prelude.{filter, not}
 use Rattle.pe_base.specs.declared.limits.TheConstants.{DEPTH_LIMIT}
 use Rattle.pe_arena.specs.declared.handle.Handle.{Handle}
@@ -7,7 +7,7 @@ use Rattle.pe_frames.specs.Forest.{Entry, path, same_handle, has_handle, first_o
 use Rattle.pe_frames.specs.Order.{is_named, is_child, handles_under}
 use Rattle.pe_frames.specs.Links.{young}
 use Rattle.pe_frames.specs.Kept.{Kept, entries_in, AreNodes, AreApart}
-use Rattle.pe_frames.proofs.Nodes.{has-push, same_handle-Decides, same_or_other}
+use Rattle.pe_frames.proofs.Nodes.{same_handle-Decides, same_or_other}
 use Rattle.pe_frames.proofs.Pages.{not_same}
 use Rattle.pe_frames.proofs.Below.{entry-handle}
 use Rattle.pe_frames.proofs.Upward.{above-none, under-parent, under-top, under-itself}

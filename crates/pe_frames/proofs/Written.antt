@@ -1,5 +1,5 @@
 -- The list of frames, through a write of a document.
-use Rattle.std.proofs.Common.{◌≡◌, inl, inr, ℕ, zero, suc, set, Bool, true, false, cond, List, [], ◌∷◌, map, length, length-set, get_or, Option, None, Some, IsSome, is_some, refl, sym, ap, subst, ◌∙◌, arith, true≢false}
+use Rattle.std.proofs.Common.{◌≡◌, inl, inr, ℕ, Bool, true, false, cond, List, [], ◌∷◌, map, length, length-set, Option, None, Some, IsSome, is_some, refl, sym, ap, subst, ◌∙◌, arith, true≢false}
 use Rattle.std.specs.Prelude.{filter, unwrap_or}
 use Rattle.std.specs.Option.{option_map}
 use Rattle.pe_arena.specs.declared.handle.Handle.{Handle}
@@ -10,7 +10,7 @@ use Rattle.pe_frames.specs.declared.node.Node.{Node}
 use Rattle.pe_frames.specs.Forest.{Entry, path, same_handle, entry_of, node_in, top_of, is_top, page_size, page_count, redone, with_doc}
 use Rattle.pe_frames.specs.Order.{is_child}
 use Rattle.pe_frames.specs.Kept.{above_in, Kept, joined, kept, shown, node_at, entry_in, entries_in, AreNodes, AreApart, forest_in, IsForest}
-use Rattle.pe_frames.specs.Links.{links_by, young, siblings, links_in}
+use Rattle.pe_frames.specs.Links.{links_by, young, links_in}
 use Rattle.pe_frames.proofs.Writes.{map-set_same}
 use Rattle.pe_frames.proofs.Nodes.{same_handle-Decides, same_or_other}
 

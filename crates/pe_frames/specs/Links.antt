@@ -1,12 +1,11 @@
 -- What the rows of frames say of their neighbours, and what a write or a removal leaves of the rows.
-use Rattle.std.specs.Prelude.{◌≡◌, ℕ, ◌-◌, Bool, cond, is_none, List, [], ◌∷◌, map, Option, None, Some}
+use Rattle.std.specs.Prelude.{◌≡◌, ℕ, ◌-◌, cond, is_none, List, [], ◌∷◌, map, Option, None, Some}
 use Rattle.std.specs.Option.{option_map}
 use Rattle.pe_arena.specs.declared.handle.Handle.{Handle}
 use Rattle.pe_arena.specs.Slots.{Slots, live}
 use Rattle.pe_frames.specs.declared.row.Row.{Row}
 use Rattle.pe_frames.specs.declared.row.Links.{Links}
-use Rattle.pe_frames.specs.declared.node.Node.{Node}
-use Rattle.pe_frames.specs.Forest.{Entry, same_handle, last_of, has_handle}
+use Rattle.pe_frames.specs.Forest.{Entry, last_of, has_handle}
 use Rattle.pe_frames.specs.Order.{is_named, head_of, after, is_child}
 
 -- what stands directly before the named one

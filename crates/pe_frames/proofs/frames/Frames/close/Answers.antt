@@ -1,5 +1,5 @@
-use Rattle.std.proofs.Common.{◌≡◌, ◌+◌, ◌-◌, IsSome, [], ◌∷◌, ◌++◌, arith, ap, ◌∙◌, sym, subst, refl}
-use Rattle.pe_frames.specs.Forest.{Forest, StayDead, IsDead, entry_of}
+use Rattle.std.proofs.Common.{◌+◌, ◌-◌, IsSome, [], ◌∷◌, ◌++◌, arith, ap, ◌∙◌, sym, subst}
+use Rattle.pe_frames.specs.Forest.{Forest, StayDead, entry_of}
 use Rattle.pe_frames.specs.Order.{closed, docs_under}
 use Rattle.pe_frames.specs.Links.{docs_at}
 use Rattle.pe_frames.specs.Kept.{forest_in}
