@@ -158,6 +158,9 @@ module _ {T : Type 0} where
   pub mark-holding : (s : Slots T) (i : ℕ) (v : T) → IsNext s i → mark (holding s i v) i ≡ mark s i + 1
   mark-holding s i v next = ap (λ x. x.mark) ((Writes-holding s i v (next-within s i next)).here)
 
+  pub mark-other-holding : (s : Slots T) (i : ℕ) (v : T) → IsNext s i → (j : ℕ) → j ≢ i → mark (holding s i v) j ≡ mark s j
+  mark-other-holding s i v next j ne = ap (λ x. x.mark) ((Writes-holding s i v (next-within s i next)).there j ne)
+
   pub mark-le-holding : (s : Slots T) (i : ℕ) (v : T) → IsNext s i → (j : ℕ) → mark s j ≤ mark (holding s i v) j
   mark-le-holding s i v next j = elim (same_or_not j i) as (λ _. mark s j ≤ mark (holding s i v) j) [
     | inl e ↦
@@ -165,7 +168,7 @@ module _ {T : Type 0} where
         let then = ap (mark s) e in
         omega (arith, now, then)
     | inr ne ↦
-        let same = ap (λ x. x.mark) ((Writes-holding s i v (next-within s i next)).there j ne) in
+        let same = mark-other-holding s i v next j ne in
         omega (arith, same)
   ]
 

@@ -1,5 +1,5 @@
 -- The frames of all pages, as a list.
-use Rattle.std.specs.Prelude.{◌≡◌, ℕ, ◌+◌, ◌<◌, Bool, ◌&&◌, ◌==◌, List, [], ◌∷◌, ◌++◌, map, filter, length, Option, Some, None, Result, Ok, Err, unwrap_or, slice_index_or, if◌then◌else◌, refl}
+use Rattle.std.specs.Prelude.{◌≡◌, ◌≢◌, ◌⊎◌, ℕ, ◌+◌, ◌<◌, ◌≤◌, ⊤, IsSome, IsSomeAnd, Bool, ◌&&◌, ◌==◌, List, [], ◌∷◌, ◌++◌, map, filter, length, Option, Some, None, Result, Ok, Err, unwrap_or, slice_index_or, if◌then◌else◌, refl}
 use Rattle.std.specs.List.{list_any}
 use Rattle.std.specs.Option.{option_map, option_and_then}
 use Rattle.std.specs.Coded.{Coded, code_by, coded×, coded_ℕ, coded_list}
@@ -147,6 +147,26 @@ module _ {D : Type 0} where
   -- the least generation that the slot may yet give
   abbrev pub mark_of : Forest D → ℕ → ℕ
   mark_of f slot = slice_index_or f.marks slot 0
+
+  -- a new frame, before these: no live one has its handle, it is the top one of a page or one of these embeds it, and it is not too deep
+  pub record IsNewest (es : List (Entry D)) (e : Entry D) : Type 0 where
+    pub new : entry_of es e.handle ≡ None
+    pub below : (e.above ≡ []) ⊎ ((p : Handle) × IsSomeAnd (entry_of es p) (λ a. e.above ≡ path a))
+    pub shallow : depth_of e ≤ DEPTH_LIMIT
+
+  -- a tree of frames: each stands as a new one before those behind it
+  abbrev pub AreFrames : List (Entry D) → Type 0
+  AreFrames [] = ⊤
+  AreFrames (e ∷ es) = IsNewest es e × AreFrames es
+
+  -- the slot of each live handle gave its generation
+  abbrev pub AreGiven : Forest D → Type 0
+  AreGiven f = (h : Handle) → IsSome (entry_of f.entries h) → h.generation < mark_of f h.slot
+
+  -- the handle's slot gave its generation last, and the mark of each other slot is as before
+  pub record Gives (old new : Forest D) (h : Handle) : Type 0 where
+    pub given : mark_of new h.slot ≡ h.generation + 1
+    pub others : (slot : ℕ) → slot ≢ h.slot → mark_of new slot ≡ mark_of old slot
 
   -- the slot gave this generation or a later one, and the handle is not live
   pub record IsDead (f : Forest D) (h : Handle) : Type 0 where

@@ -2,7 +2,11 @@
 #![tactic(auto)]
 
 mod frames;
+mod law;
 mod node;
+mod removal;
+mod row;
+mod walk;
 
 pub use frames::{Frames, TreeFault};
 pub use node::{Node, Numbered};

@@ -1,0 +1,34 @@
+-- Frames below a root, by the frames that embed them.
+use Rattle.std.proofs.Common.{◌≡◌, Bool, true, false, ◌||◌, List, [], ◌∷◌, None, is_some, refl, ap, ◌∙◌, true≢false}
+use Rattle.pe_arena.specs.declared.handle.Handle.{Handle}
+use Rattle.pe_frames.specs.Forest.{Entry, same_handle, has_handle, last_of, path, parent_of, is_under}
+use Rattle.pe_frames.proofs.Nodes.{has-push, same_handle-Decides}
+
+no_last : (ks : List Handle) → last_of ks ≡ None → ks ≡ []
+no_last [] q = refl
+no_last (k ∷ ks) q = absurd (true≢false (ap is_some q))
+
+module _ {D : Type 0} where
+  -- a frame with no parent stands below none
+  pub above-none : (e : Entry D) → parent_of e ≡ None → e.above ≡ []
+  above-none e q = no_last e.above q
+
+  -- a frame that is not the root is below it where its parent is the root or below it
+  pub under-parent : (root : Handle) (e a : Entry D) → e.above ≡ path a → same_handle e.handle root ≡ false → is_under root e ≡ is_under root a
+  under-parent root e a q f = has-push root e.handle e.above ∙ ap (λ b. has_handle root e.above || b) f ∙ or_false (has_handle root e.above) ∙ ap (has_handle root) q
+    where
+      or_false : (b : Bool) → (b || false) ≡ b
+      or_false true = refl
+      or_false false = refl
+
+  -- a top frame is below itself alone
+  pub under-top : (root : Handle) (e : Entry D) → e.above ≡ [] → is_under root e ≡ same_handle e.handle root
+  under-top root e q = has-push root e.handle e.above ∙ ap (λ ks. has_handle root ks || same_handle e.handle root) q
+
+  -- a frame is below itself
+  pub under-itself : (e : Entry D) → is_under e.handle e ≡ true
+  under-itself e = has-push e.handle e.handle e.above ∙ ap (λ b. has_handle e.handle e.above || b) ((same_handle-Decides e.handle e.handle).1 refl) ∙ or_true (has_handle e.handle e.above)
+    where
+      or_true : (b : Bool) → (b || true) ≡ true
+      or_true true = refl
+      or_true false = refl
