@@ -3,17 +3,21 @@
 //!
 //! - `fields COUNT`: reads a header of about 500 bytes so many times.
 //! - `cutter BYTES LENGTH PIECE`: cuts so many bytes, in lines of this length, fed in pieces of this size.
+//! - `change COUNT`: removes so many values of an arena of 16,384 at random places, and takes another in for each.
+//! - `find COUNT`: looks so many values of such an arena up, at random places.
 #![tactic(auto)]
 
+mod arena;
 mod cutter;
 mod fields;
 
-use std::alloc::AllocError;
+use std::alloc::{AllocError, Global};
 use std::process::ExitCode;
 use std::{env, io};
 
 /// What is written where the arguments are of no form.
-const USAGE: &str = "usage: pe_bench fields COUNT | cutter BYTES LENGTH PIECE";
+const USAGE: &str =
+    "usage: pe_bench fields COUNT | cutter BYTES LENGTH PIECE | change COUNT | find COUNT";
 
 /// What is to be measured.
 enum Work {
@@ -25,14 +29,38 @@ enum Work {
         length: usize,
         piece: usize,
     },
+    Change {
+        count: u64,
+    },
+    Find {
+        count: u64,
+    },
+}
+
+/// The work of this name that is done so many times.
+fn counted_work(name: &str, count: &str) -> Option<Work> {
+    if name == "fields" {
+        return Some(Work::Fields {
+            count: count.parse().ok()?,
+        });
+    }
+    if name == "change" {
+        return Some(Work::Change {
+            count: count.parse().ok()?,
+        });
+    }
+    if name == "find" {
+        return Some(Work::Find {
+            count: count.parse().ok()?,
+        });
+    }
+    None
 }
 
 /// The work that the arguments name.
 fn work_of(words: &[String]) -> Option<Work> {
     match words {
-        [name, count] if name.as_str() == "fields" => Some(Work::Fields {
-            count: count.as_str().parse().ok()?,
-        }),
+        [name, count] => counted_work(name.as_str(), count.as_str()),
         [name, bytes, length, piece] if name.as_str() == "cutter" => Some(Work::Cutter {
             bytes: bytes.as_str().parse().ok()?,
             length: length.as_str().parse().ok()?,
@@ -51,27 +79,39 @@ fn words(rt: &HostRuntime) -> io::Result<Vec<String>> {
     Ok(words)
 }
 
-fn main(rt: HostRuntime) -> io::Result<ExitCode> {
-    let words = words(&rt)?;
-    match work_of(&words) {
-        Some(Work::Fields { count }) => {
-            let members = fields::members_read(rt.alloc(), count)?;
-            println!(rt; "{count} headers, {members} members")?;
+/// Does the work, and says what was done.
+fn done(alloc: Global, work: Work) -> Result<String, AllocError> {
+    match work {
+        Work::Fields { count } => {
+            let members = fields::members_read(alloc, count)?;
+            format!(in alloc; "{count} headers, {members} members")
         }
-        Some(
-            Work::Cutter {
-                bytes,
-                length,
-                piece,
-            },
-        ) => {
-            let lines = cutter::lines_cut(rt.alloc(), bytes, length, piece)?;
-            println!(rt; "{bytes} bytes, {lines} lines")?;
+        Work::Cutter {
+            bytes,
+            length,
+            piece,
+        } => {
+            let lines = cutter::lines_cut(alloc, bytes, length, piece)?;
+            format!(in alloc; "{bytes} bytes, {lines} lines")
         }
-        None => {
-            println!(rt; "{USAGE}")?;
-            return Ok(ExitCode::from(2));
+        Work::Change { count } => {
+            let changed = arena::values_changed(alloc, count)?;
+            format!(in alloc; "{changed} values removed and taken in")
+        }
+        Work::Find { count } => {
+            let found = arena::values_found(alloc, count)?;
+            format!(in alloc; "{found} values found")
         }
     }
+}
+
+fn main(rt: HostRuntime) -> io::Result<ExitCode> {
+    let words = words(&rt)?;
+    let Some(work) = work_of(&words) else {
+        println!(rt; "{USAGE}")?;
+        return Ok(ExitCode::from(2));
+    };
+    let text = done(rt.alloc(), work)?;
+    println!(rt; "{text}")?;
     Ok(ExitCode::from(0))
 }
