@@ -6,7 +6,7 @@ use Rattle.std.proofs.lemmas.Bool.Decides.{nat_tests}
 use Rattle.pe_arena.specs.declared.handle.Handle.{Handle}
 use Rattle.pe_arena.specs.Slots.{Slots, live, mark, with_value, Updates}
 use Rattle.pe_arena.proofs.Live.{unlive-next}
-use Rattle.pe_frames.specs.declared.frames.Row.{Row}
+use Rattle.pe_frames.specs.declared.row.Row.{Row}
 use Rattle.pe_frames.specs.declared.node.Node.{Node}
 use Rattle.pe_frames.specs.declared.node.Place.{Place}
 use Rattle.pe_frames.specs.Forest.{Entry, path, entry_of, node_in, top_of, depth_of, is_top, first_of, last_of, page_size, page_count}

@@ -6,7 +6,7 @@ use Rattle.pe_arena.specs.declared.handle.Handle.{Handle}
 use Rattle.pe_arena.specs.Slots.{Slot, Slots, live, mark, holding, with_value, IsNext, Updates}
 use Rattle.pe_arena.proofs.Live.{unlive-next, mark-holding, mark-le-holding, length-holding, mark-with_value, write-updates}
 use Rattle.std.specs.Option.{option_map}
-use Rattle.pe_frames.specs.declared.frames.Row.{Row}
+use Rattle.pe_frames.specs.declared.row.Row.{Row}
 use Rattle.pe_frames.specs.declared.node.Node.{Node}
 use Rattle.pe_frames.specs.Forest.{Entry, page_size, first_of, top_of, same_handle, has_handle, entry_of, node_in, mark_of, page_count, StayDead}
 use Rattle.pe_frames.specs.Kept.{above_in, Kept, joined, kept, entry_in, entries_in, shown, node_at, AreNodes, AreApart, IsSized, forest_in, IsForest}

@@ -3,7 +3,7 @@ use Rattle.std.proofs.Common.{◌≡◌, ℕ, List, [], Option, None, Some, refl
 use Rattle.std.specs.Option.{option_map}
 use Rattle.pe_arena.specs.declared.handle.Handle.{Handle}
 use Rattle.pe_arena.specs.Slots.{Slots, live}
-use Rattle.pe_frames.specs.declared.frames.Row.{Row}
+use Rattle.pe_frames.specs.declared.row.Row.{Row}
 use Rattle.pe_frames.specs.declared.node.Node.{Node}
 use Rattle.pe_frames.specs.Forest.{Entry, entry_of, node_in, top_of, last_of, page_size}
 use Rattle.pe_frames.specs.Kept.{kept, entries_in, shown, IsSized, IsForest}

@@ -5,7 +5,7 @@ use Rattle.std.specs.Option.{option_map}
 use Rattle.pe_arena.specs.declared.handle.Handle.{Handle}
 use Rattle.pe_arena.specs.Slots.{Slot, Slots, live, mark, with_value, Updates}
 use Rattle.pe_arena.proofs.Live.{mark-with_value, write-updates}
-use Rattle.pe_frames.specs.declared.frames.Row.{Row}
+use Rattle.pe_frames.specs.declared.row.Row.{Row}
 use Rattle.pe_frames.specs.declared.node.Node.{Node}
 use Rattle.pe_frames.specs.Forest.{Entry, path, same_handle, entry_of, node_in, top_of, is_top, page_size, page_count, redone, with_doc}
 use Rattle.pe_frames.specs.Kept.{above_in, Kept, joined, kept, shown, node_at, entry_in, entries_in, AreNodes, AreApart, forest_in, IsForest}

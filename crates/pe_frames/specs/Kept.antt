@@ -1,16 +1,23 @@
 -- How the tree keeps its frames.
-use Rattle.std.specs.Prelude.{◌≡◌, ℕ, ◌-◌, ◌<◌, ◌≤◌, ◌^◌, true, cond, List, [], ◌∷◌, map, length, Option, Some, None, IsSome, unwrap_or, ⊤}
+use Rattle.std.specs.Prelude.{◌≡◌, ℕ, ◌-◌, ◌<◌, ◌≤◌, ◌^◌, true, false, cond, List, [], ◌∷◌, map, length, Option, Some, None, IsSome, unwrap_or, ⊤}
 use Rattle.std.specs.Option.{option_map, option_and_then}
 use Rattle.pe_arena.specs.declared.handle.Handle.{Handle}
 use Rattle.pe_arena.specs.Slots.{Slots, live, mark}
-use Rattle.pe_frames.specs.declared.frames.Row.{Row}
+use Rattle.pe_frames.specs.declared.row.Row.{Row}
+use Rattle.pe_frames.specs.declared.row.Standing.{Standing}
 use Rattle.pe_frames.specs.declared.node.Node.{Node}
-use Rattle.pe_frames.specs.Forest.{Entry, Forest, entry_of, path, has_handle, same_handle, node_in, page_size, page_count}
+use Rattle.pe_frames.specs.Links.{links_in}
+use Rattle.pe_frames.specs.Forest.{parent_of, top_of, depth_of, Entry, Forest, entry_of, path, has_handle, same_handle, node_in, page_size, page_count}
 
 -- a live frame as it is kept: its handle and its node
 pub record Kept (D : Type 0) : Type 0 where
   pub handle : Handle
   pub node : Node D
+
+-- no handle is listed twice
+abbrev pub AreOnce : List Handle → Type 0
+AreOnce [] = ⊤
+AreOnce (k ∷ ks) = (has_handle k ks ≡ false) × AreOnce ks
 
 module _ {D : Type 0} where
   -- the frame of the handle, if it is live, before these
@@ -60,6 +67,20 @@ module _ {D : Type 0} where
     pub size : r.size ≡ page_size es h
     pub within : r.size ≤ 256
 
+  -- the row of a frame has its neighbours
+  abbrev pub HasLinks : List (Entry D) → Handle → Row D → Type 0
+  HasLinks es h r = r.links ≡ links_in es h r.node.parent
+
+  -- where the frame with this handle stands
+  abbrev pub standing_in : List (Entry D) → Handle → Entry D → Standing
+  standing_in es h e = record { parent = parent_of e; top = top_of e; depth = depth_of e; links = links_in es h (parent_of e) }
+
+  -- the live ones of the handles are listed as before, and no handle is new
+  pub record Sweeps (s : Slots (Row D)) (old new : List Handle) : Type 0 where
+    pub same : kept s new [] ≡ kept s old []
+    pub listed : (h : Handle) → IsSome (shown s h) → has_handle h old ≡ true → has_handle h new ≡ true
+    pub known : (h : Handle) → has_handle h new ≡ true → has_handle h old ≡ true
+
   -- what contracts see of nodes in this order of making
   abbrev pub forest_in : Slots (Row D) → List Handle → Forest D
   forest_in s order = record { entries = entries_in (kept s order []); marks = map (λ x. x.mark) s.slots; made = s.made }
@@ -71,6 +92,7 @@ module _ {D : Type 0} where
     pub nodes : AreNodes (kept s order [])
     pub apart : AreApart (kept s order [])
     pub sized : (h : Handle) (r : Row D) → live s h ≡ Some r → r.node.parent ≡ None → IsSized (entries_in (kept s order [])) h r
+    pub linked : (h : Handle) (r : Row D) → live s h ≡ Some r → HasLinks (entries_in (kept s order [])) h r
     pub shallow : (h : Handle) (n : Node D) → shown s h ≡ Some n → n.depth ≤ 64
     pub paged : pages ≡ page_count (entries_in (kept s order []))
     pub few : pages ≤ 64

@@ -1,3 +1,5 @@
 pub mod Forest
 pub mod Kept
 pub mod Lends
+pub mod Links
+pub mod Order

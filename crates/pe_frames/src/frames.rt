@@ -1,12 +1,16 @@
 //! The tree of frames.
-ghost use Rattle.std.specs.Prelude.{◌≡◌, ◌≢◌, ◌⊎◌, ◌↔◌, ◌+◌, ◌<◌, ◌≤◌, ◌-◌, ◌^◌, ℕ, IsSome, IsTrue, IfSome, IsSomeAnd, length, [], IfOk, IfErr, OnOk, OnErr, Some, None, Err, option_copied};
+ghost use Rattle.std.specs.Prelude.{◌≡◌, ◌≢◌, ◌⊎◌, ◌↔◌, ◌+◌, ◌<◌, ◌≤◌, ◌-◌, ◌^◌, ℕ, IsSome, IsTrue, IfSome, IsSomeAnd, [], ◌∷◌, IfOk, IfErr, OnOk, OnErr, None, Err, option_copied, vec_len, vec_capacity};
 ghost use Rattle.std.specs.Option.{option_map, option_and_then, option_copied_mut};
 ghost use Rattle.std.specs.Borrow.{sem};
-ghost use Rattle.pe_arena.specs.Slots.{live, mark, holding, with_value, IsNext, Updates};
 ghost use Rattle.pe_frames.specs.Forest.{entry_of, node_of, doc_of, parent_of, top_of, page_count, page_size, mark_of, path_of, depth_of, refusal, embed_fault, opened, StayDead};
+ghost use Rattle.pe_frames.specs.Order.{head_of, closed, navigated, handles_under, docs_under};
+ghost use Rattle.pe_frames.specs.Links.{young};
+ghost use Rattle.pe_frames.specs.Kept.{standing_in};
 
 use crate::node::{Node, Numbered, Place};
-use pe_arena::{Arena, DocRef, Handle, Insert};
+use crate::removal::{renew, shrink_page, sweep, take_all, take_one, unlink};
+use crate::row::{Links, Row, Standing, grow_page, link, name_top, put_row};
+use pe_arena::{Arena, DocRef, Handle};
 use pe_base::{DEPTH_LIMIT, FRAME_LIMIT, FrameNo, PAGE_LIMIT, Steps};
 use std::alloc::{AllocError, Global};
 use std::marker::Model;
@@ -27,19 +31,13 @@ pub enum TreeFault {
     Memory,
 }
 
-// What is kept of a frame: its node, and where it is a top frame how many frames its page has.
-#[derive(Drop)]
-struct Row<D> {
-    node: Node<D>,
-    size: u32,
-}
-
 /// The frames of all pages. Contracts see them as a list, newest first, in which each frame stands
 /// with the handles of the frames above it.
 #[derive(Drop)]
 pub struct Frames<D: Numbered> {
-    rows: Arena<Row<D>>,
-    order: Vec<Handle>,
+    pub(crate) rows: Arena<Row<D>>,
+    pub(crate) order: Vec<Handle>,
+    dead: usize,
     pages: u32,
 }
 
@@ -57,43 +55,6 @@ impl<D: Numbered> Model for Frames<D> {
     ghost invariant = { λ f. IsForest f.rows f.order.items f.pages };
 }
 
-// Takes a row in. Fewer slots were made than the arena may make, so it is never full.
-fn put_row<D: Drop>(rows: &mut Arena<Row<D>>, row: Row<D>) -> Result<Handle, AllocError>
-    requires made { rows.old.made < 2 ^ 32 - 1 }
-    requires slots { length rows.old.slots ≤ rows.old.made }
-    requires limit { rows.old.limit ≡ 2 ^ 32 - 1 }
-    ensures slot { IfOk result (λ h. IsNext rows.old h.slot) }
-    ensures generation { IfOk result (λ h. h.generation ≡ mark rows.old h.slot) }
-    ensures slots { IfOk result (λ h. rows.new ≡ holding rows.old h.slot row) }
-    ensures updates { IfOk result (λ h. Updates rows.old rows.new h (Some row)) }
-    ensures err { OnErr result (rows.new ≡ rows.old) }
-{
-    match rows.insert(row) {
-        Ok(h) => Ok(h),
-        Err(Insert::Memory(_)) => Err(AllocError),
-        Err(Insert::Full(_)) => unreachable!(),
-    }
-}
-
-// Says of the frame that it is the top frame of its page.
-fn name_top<D>(rows: &mut Arena<Row<D>>, h: Handle)
-    requires { IsSome (live rows.old h) }
-    ensures { IfSome (live rows.old h) (λ r. rows.new ≡ with_value rows.old h.slot (record r { node = record r.node { top = h } })) }
-{
-    let row = rows.get_mut(h).unwrap();
-    row.node.top = h;
-}
-
-// Counts one more frame of the page, in the row of its top frame.
-fn grow_page<D>(rows: &mut Arena<Row<D>>, top: Handle)
-    requires live { IsSome (live rows.old top) }
-    requires room { IfSome (live rows.old top) (λ r. r.size ≤ 255) }
-    ensures { IfSome (live rows.old top) (λ r. rows.new ≡ with_value rows.old top.slot (record r { size = r.size + 1 })) }
-{
-    let row = rows.get_mut(top).unwrap();
-    row.size += 1;
-}
-
 impl<D: Numbered> Frames<D> {
     ghost use Rattle.pe_frames.specs.Lends.{lends_doc, lends_live};
 
@@ -104,6 +65,7 @@ impl<D: Numbered> Frames<D> {
         Frames {
             rows: Arena::new(alloc, u32::MAX, 0),
             order: Vec::new(alloc),
+            dead: 0,
             pages: 0,
         }
     }
@@ -130,6 +92,7 @@ impl<D: Numbered> Frames<D> {
             Row {
                 node: Node::top(frame, doc),
                 size: 1,
+                links: Links::behind(None),
             },
         ) {
             Ok(h) => h,
@@ -157,11 +120,20 @@ impl<D: Numbered> Frames<D> {
             return Err(TreeFault::Memory);
         }
         let node = Node::below(parent, place, frame, doc);
-        let h = match put_row(&mut self.rows, Row { node, size: 0 }) {
+        let links = Links::behind(place.last);
+        let h = match put_row(
+            &mut self.rows,
+            Row {
+                node,
+                size: 0,
+                links,
+            },
+        ) {
             Ok(h) => h,
             Err(_) => return Err(TreeFault::Memory),
         };
         grow_page(&mut self.rows, place.top);
+        link(&mut self.rows, parent, place.last, h);
         self.order.push_reserved(h);
         Ok(h)
     }
@@ -172,22 +144,106 @@ impl<D: Numbered> Frames<D> {
         ensures memory { result ≢ Err TreeFault.Memory }
         ensures depth { IfOk result (λ p. p.depth ≤ 64) }
         ensures room { IfOk result (λ p. page_size self.now.entries p.top ≢ FRAME_LIMIT) }
-        ensures place { IfOk result (λ p. IsSomeAnd (entry_of self.now.entries parent) (λ e. p ≡ record { top = top_of e; depth = depth_of e + 1 })) }
+        ensures place { IfOk result (λ p. IsSomeAnd (entry_of self.now.entries parent) (λ e. p ≡ record { top = top_of e; depth = depth_of e + 1; last = head_of (young self.now.entries parent) })) }
     {
-        let node = match self.find(parent) {
-            Some(node) => node,
+        let here = match self.standing(parent) {
+            Some(here) => here,
             None => return Err(TreeFault::Stale),
         };
-        if node.depth == DEPTH_LIMIT {
+        if here.depth == DEPTH_LIMIT {
             return Err(TreeFault::TooDeep);
         }
         if self.page_size(parent) == Some(FRAME_LIMIT) {
             return Err(TreeFault::TooMany);
         }
         Ok(Place {
-            top: node.top,
-            depth: node.depth + 1,
+            top: here.top,
+            depth: here.depth + 1,
+            last: here.links.last,
         })
+    }
+
+    // Where the frame of the handle stands.
+    pub(crate) fn standing(&self, h: Handle) -> Option<Standing>
+        ensures value { result ≡ option_map (standing_in self.now.entries h) (entry_of self.now.entries h) }
+        ensures depth { IfSome result (λ p. p.depth ≤ 64) }
+    {
+        let row = self.rows.get(h)?;
+        Some(Standing {
+            parent: row.node.parent,
+            top: row.node.top,
+            depth: row.node.depth,
+            links: row.links,
+        })
+    }
+
+    /// Gives the frame another document and removes all frames below it. The documents that were
+    /// there are given back in tree order, that of the frame first.
+    pub fn navigate(&mut self, h: Handle, doc: D) -> Result<Vec<D>, TreeFault>
+        ensures entries { OnOk result (self.new.entries ≡ navigated h doc self.old.entries) }
+        ensures documents { IfOk result (λ docs. docs.items ≡ docs_under self.old.entries h) }
+        ensures made { self.new.made ≡ self.old.made }
+        ensures marks { self.new.marks ≡ self.old.marks }
+        ensures dead { StayDead self.old self.new }
+        ensures stale { (result ≡ Err TreeFault.Stale) ↔ (entry_of self.old.entries h ≡ None) }
+        ensures only { IfErr result (λ e. (e ≡ TreeFault.Stale) ⊎ (e ≡ TreeFault.Memory)) }
+        ensures err { OnErr result (self.new ≡ self.old) }
+    {
+        let here = match self.standing(h) {
+            Some(here) => here,
+            None => return Err(TreeFault::Stale),
+        };
+        let (below, mut docs) = match self.leaving(h) {
+            Ok(leaving) => leaving,
+            Err(_) => return Err(TreeFault::Memory),
+        };
+        docs.push_reserved(renew(&mut self.rows, h, doc));
+        take_all(&mut self.rows, &below, &mut docs);
+        shrink_page(&mut self.rows, Some(here.top), below.len() as u32);
+        sweep(&self.rows, &mut self.order, &mut self.dead, below.len());
+        Ok(docs)
+    }
+
+    /// Removes the frame and all below it. Their documents are given back in tree order, that of the
+    /// frame first.
+    pub fn close(&mut self, h: Handle) -> Result<Vec<D>, TreeFault>
+        ensures entries { OnOk result (self.new.entries ≡ closed h self.old.entries) }
+        ensures documents { IfOk result (λ docs. docs.items ≡ docs_under self.old.entries h) }
+        ensures made { self.new.made ≡ self.old.made }
+        ensures marks { self.new.marks ≡ self.old.marks }
+        ensures dead { StayDead self.old self.new }
+        ensures stale { (result ≡ Err TreeFault.Stale) ↔ (entry_of self.old.entries h ≡ None) }
+        ensures only { IfErr result (λ e. (e ≡ TreeFault.Stale) ⊎ (e ≡ TreeFault.Memory)) }
+        ensures err { OnErr result (self.new ≡ self.old) }
+    {
+        let here = match self.standing(h) {
+            Some(here) => here,
+            None => return Err(TreeFault::Stale),
+        };
+        let (below, mut docs) = match self.leaving(h) {
+            Ok(leaving) => leaving,
+            Err(_) => return Err(TreeFault::Memory),
+        };
+        take_one(&mut self.rows, h, &mut docs);
+        take_all(&mut self.rows, &below, &mut docs);
+        unlink(&mut self.rows, here.links, here.parent);
+        shrink_page(&mut self.rows, here.page(), below.len() as u32 + 1);
+        self.pages -= here.pages();
+        sweep(&self.rows, &mut self.order, &mut self.dead, below.len() + 1);
+        Ok(docs)
+    }
+
+    // The handles of the frames below the named one, in tree order, and room for the documents of all.
+    fn leaving(&self, h: Handle) -> Result<(Vec<Handle>, Vec<D>), AllocError>
+        requires { IsSome (entry_of self.now.entries h) }
+        ensures handles { IfOk result (λ p. h ∷ p.0.items ≡ handles_under self.now.entries h) }
+        ensures documents { IfOk result (λ p. p.1.items ≡ []) }
+        ensures room { IfOk result (λ p. vec_len p.0 + 1 ≤ vec_capacity p.1) }
+    {
+        let below = self.handles_below(h)?;
+        let mut docs = Vec::new(*self.order.allocator());
+        docs.reserve(below.len() + 1)?;
+        Ok((below, docs))
     }
 
     /// How many frames were ever made.

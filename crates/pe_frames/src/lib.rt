@@ -3,6 +3,9 @@
 
 mod frames;
 mod node;
+mod removal;
+mod row;
+mod walk;
 
 pub use frames::{Frames, TreeFault};
 pub use node::{Node, Numbered};

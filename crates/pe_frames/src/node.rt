@@ -28,11 +28,12 @@ pub struct Node<D> {
     pub doc: D,
 }
 
-// The place of a new frame: the top frame of its page, and its depth.
+// The place of a new frame: the top frame of its page, its depth, and the last child before it.
 #[derive(Clone, Copy)]
 pub(crate) struct Place {
     pub(crate) top: Handle,
     pub(crate) depth: u32,
+    pub(crate) last: Option<Handle>,
 }
 
 impl<D> Node<D> {

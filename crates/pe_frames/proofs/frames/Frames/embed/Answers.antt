@@ -1,7 +1,7 @@
 use Rattle.std.proofs.Common.{◌≡◌, ◌≢◌, ◌+◌, [], ◌∷◌, ◌++◌, is_some, arith, ap, ◌∙◌, sym, subst, refl}
 use Rattle.std.specs.Prelude.{IsSomeAnd}
 use Rattle.pe_arena.specs.Slots.{live}
-use Rattle.pe_frames.specs.declared.frames.Row.{Row}
+use Rattle.pe_frames.specs.declared.row.Row.{Row}
 use Rattle.pe_frames.specs.declared.node.Node.{Node}
 use Rattle.pe_frames.specs.Forest.{Forest, StayDead, node_in, page_count, page_size, entry_of, top_of, depth_of}
 use Rattle.pe_frames.specs.Kept.{kept, entries_in, entry_in, forest_in}

@@ -1,7 +1,7 @@
 use Rattle.std.proofs.Common.{◌≡◌, [], Some, None, Option, IsSome, is_some, ap, ◌∙◌, sym, subst, refl, MutBor, true≢false}
 use Rattle.std.specs.Option.{option_map, option_copied_mut}
 use Rattle.pe_arena.specs.Slots.{live}
-use Rattle.pe_frames.specs.declared.frames.Row.{Row}
+use Rattle.pe_frames.specs.declared.row.Row.{Row}
 use Rattle.pe_frames.specs.Forest.{Forest, Entry, entry_of, node_in, with_doc}
 use Rattle.pe_frames.specs.Kept.{kept, entries_in}
 use Rattle.pe_frames.proofs.Nodes.{found-live}

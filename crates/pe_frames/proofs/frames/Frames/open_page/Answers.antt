@@ -1,5 +1,5 @@
 use Rattle.std.proofs.Common.{◌≡◌, ◌+◌, [], ◌∷◌, ◌++◌, arith, ap, ◌∙◌, sym, subst, refl}
-use Rattle.pe_frames.specs.declared.frames.Row.{Row}
+use Rattle.pe_frames.specs.declared.row.Row.{Row}
 use Rattle.pe_frames.specs.declared.node.Node.{Node}
 use Rattle.pe_frames.specs.Forest.{StayDead, node_in, page_count}
 use Rattle.pe_frames.specs.Kept.{kept, entries_in, entry_in, forest_in}

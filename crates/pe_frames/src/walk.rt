@@ -1,0 +1,113 @@
+//! The walk over the tree.
+ghost use Rattle.std.specs.Prelude.{◌≡◌, ◌↔◌, ◌∷◌, Some, None, IsSome, IsSomeAnd, IsTrue, IfSome, IfOk, unwrap_or, false};
+ghost use Rattle.pe_frames.specs.Forest.{entry_of, is_under, last_of};
+ghost use Rattle.pe_frames.specs.Order.{after, next_child_of, handles_under};
+
+use crate::frames::Frames;
+use crate::node::Numbered;
+use pe_arena::Handle;
+use std::alloc::AllocError;
+
+impl<D: Numbered> Frames<D> {
+    /// The first child of the parent, or the child behind the named one, in the order of their
+    /// making. None where there is none, where the parent is not live, and where the named one is no
+    /// live child of it.
+    pub fn next_child(&self, parent: Handle, after: Option<Handle>) -> Option<Handle>
+        ensures value { result ≡ next_child_of self.now.entries parent after }
+        ensures stale { entry_of self.now.entries parent ≡ None → result ≡ None }
+    {
+        let Some(child) = after else {
+            return self.standing(parent)?.links.first;
+        };
+        let here = self.standing(child)?;
+        if here.parent != Some(parent) {
+            return None;
+        }
+        here.links.later
+    }
+
+    /// What stands behind the frame in tree order, among the root and those below it. None where
+    /// nothing does, where the frame is not live, and where it is neither the root nor below it.
+    pub fn preorder_next(&self, root: Handle, at: Handle) -> Option<Handle>
+        ensures value { result ≡ after at (handles_under self.now.entries root) }
+        ensures stale { entry_of self.now.entries at ≡ None → result ≡ None }
+        ensures outside { IfSome (entry_of self.now.entries at) (λ e. is_under root e ≡ false → result ≡ None) }
+    {
+        if !self.is_within(root, at) {
+            return None;
+        }
+        self.following(root, at)
+    }
+
+    // Whether the frame is live and is the root or below it.
+    fn is_within(&self, root: Handle, at: Handle) -> bool
+        ensures { IsTrue result ↔ IsSomeAnd (entry_of self.now.entries at) (λ e. IsTrue (is_under root e)) }
+    {
+        let Some(top) = self.top(at) else {
+            return false;
+        };
+        if top == root {
+            return true;
+        }
+        self.climbs_to(root, at)
+    }
+
+    // Whether the way up from the frame comes to the root.
+    fn climbs_to(&self, root: Handle, at: Handle) -> bool
+        requires { IsSome (entry_of self.now.entries at) }
+        ensures { IsTrue result ↔ IsSomeAnd (entry_of self.now.entries at) (λ e. IsTrue (is_under root e)) }
+    {
+        let mut up = at;
+        while up != root {
+            let Some(parent) = self.parent(up) else {
+                return false;
+            };
+            up = parent;
+        }
+        true
+    }
+
+    // What stands behind a frame that is the root or below it.
+    fn following(&self, root: Handle, at: Handle) -> Option<Handle>
+        requires { IsSomeAnd (entry_of self.now.entries at) (λ e. IsTrue (is_under root e)) }
+        ensures { result ≡ after at (handles_under self.now.entries root) }
+    {
+        let first = self.standing(at)?.links.first;
+        if first.is_some() {
+            return first;
+        }
+        self.past(root, at)
+    }
+
+    // What stands behind a frame and all below it: the later sibling of the nearest frame on the way
+    // up to the root that has one.
+    fn past(&self, root: Handle, at: Handle) -> Option<Handle>
+        requires { IsSomeAnd (entry_of self.now.entries at) (λ e. IsTrue (is_under root e)) }
+        ensures { result ≡ after (unwrap_or (last_of (handles_under self.now.entries at)) at) (handles_under self.now.entries root) }
+    {
+        let mut up = at;
+        while up != root {
+            let here = self.standing(up)?;
+            if here.links.later.is_some() {
+                return here.links.later;
+            }
+            up = here.parent?;
+        }
+        None
+    }
+
+    // The handles of the frames below the named one, in tree order.
+    pub(crate) fn handles_below(&self, h: Handle) -> Result<Vec<Handle>, AllocError>
+        requires { IsSome (entry_of self.now.entries h) }
+        ensures { IfOk result (λ v. h ∷ v.items ≡ handles_under self.now.entries h) }
+    {
+        let mut below = Vec::new(*self.order.allocator());
+        let mut at = h;
+        while let Some(next) = self.following(h, at) {
+            below.reserve(1)?;
+            below.push_reserved(next);
+            at = next;
+        }
+        Ok(below)
+    }
+}
