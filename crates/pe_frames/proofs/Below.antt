@@ -10,11 +10,13 @@ use Rattle.pe_frames.specs.declared.row.Row.{Row}
 use Rattle.pe_frames.specs.declared.node.Node.{Node}
 use Rattle.pe_frames.specs.declared.node.Place.{Place}
 use Rattle.pe_frames.specs.Forest.{Entry, path, entry_of, node_in, top_of, depth_of, is_top, first_of, last_of, page_size, page_count}
+use Rattle.pe_frames.specs.Order.{head_of}
+use Rattle.pe_frames.specs.Links.{young}
 use Rattle.pe_frames.specs.Kept.{kept, above_in, entry_in, entries_in, IsForest}
 use Rattle.pe_frames.proofs.Nodes.{same_handle-Decides, same_or_other}
 use Rattle.pe_frames.proofs.Sizes.{TopRow-live}
 
-last-push : (ks : List Handle) (k : Handle) → last_of (ks ++ k ∷ []) ≡ Some k
+pub last-push : (ks : List Handle) (k : Handle) → last_of (ks ++ k ∷ []) ≡ Some k
 last-push [] k = refl
 last-push (x ∷ ks) k = ap (λ o. Some (unwrap_or o x)) (last-push ks k)
 
@@ -22,13 +24,9 @@ first-push : (ks : List Handle) (k h : Handle) → first_of (ks ++ k ∷ []) h �
 first-push [] k h = refl
 first-push (x ∷ ks) k h = refl
 
-if_some : {A : Type 0} (P : A → Type 0) (o : Option A) (x : A) → o ≡ Some x → IfSome o P → P x
-if_some P None x e f = absurd cc
-if_some P (Some y) x e f = let q : y ≡ x = cc in subst P q f
-
 module _ {D : Type 0} where
   -- the frame of a handle has the handle
-  entry-handle : (es : List (Entry D)) (h : Handle) (e : Entry D) → entry_of es h ≡ Some e → e.handle ≡ h
+  pub entry-handle : (es : List (Entry D)) (h : Handle) (e : Entry D) → entry_of es h ≡ Some e → e.handle ≡ h
   entry-handle [] h e f = absurd cc
   entry-handle (x ∷ es) h e f = elim (same_or_other x.handle h) as (λ _. e.handle ≡ h) [
     | inl s ↦
@@ -44,12 +42,12 @@ module _ {D : Type 0} where
   pub record IsBelow (es : List (Entry D)) (p : Handle) (place : Place) : Type 0 where
     pub entry : Entry D
     pub found : entry_of es p ≡ Some entry
-    pub is : place ≡ record { top = top_of entry; depth = depth_of entry + 1 }
+    pub is : place ≡ record { top = top_of entry; depth = depth_of entry + 1; last = head_of (young es p) }
 
-  pub below-of : (es : List (Entry D)) (p : Handle) (place : Place) → IsSomeAnd (entry_of es p) (λ e. place ≡ record { top = top_of e; depth = depth_of e + 1 }) → IsBelow es p place
+  pub below-of : (es : List (Entry D)) (p : Handle) (place : Place) → IsSomeAnd (entry_of es p) (λ e. place ≡ record { top = top_of e; depth = depth_of e + 1; last = head_of (young es p) }) → IsBelow es p place
   below-of es p place w = by_entry (entry_of es p) refl w
     where
-      by_entry : (o : Option (Entry D)) → entry_of es p ≡ o → IsSomeAnd o (λ e. place ≡ record { top = top_of e; depth = depth_of e + 1 }) → IsBelow es p place
+      by_entry : (o : Option (Entry D)) → entry_of es p ≡ o → IsSomeAnd o (λ e. place ≡ record { top = top_of e; depth = depth_of e + 1; last = head_of (young es p) }) → IsBelow es p place
       by_entry None f q = absurd q
       by_entry (Some e) f q = record { entry = e; found = f; is = q }
 
@@ -114,10 +112,6 @@ module _ {D : Type 0} where
         bare = top.bare;
         room = omega (arith, size, within, at, room);
       }
-
-  -- what was written of the row of the page's top frame
-  pub size_written : (mid t : Slots (Row D)) (k : Handle) (r : Row D) → live mid k ≡ Some r → IfSome (live mid k) (λ x. t ≡ with_value mid k.slot (record x { size = x.size + 1 })) → t ≡ with_value mid k.slot (record r { size = r.size + 1 })
-  size_written mid t k r e f = if_some (λ x. t ≡ with_value mid k.slot (record x { size = x.size + 1 })) (live mid k) r e f
 
   pub room_is : (o : Option (Row D)) (r : Row D) → o ≡ Some r → r.size ≤ 255 → IfSome o (λ x. x.size ≤ 255)
   room_is None r e f = absurd cc

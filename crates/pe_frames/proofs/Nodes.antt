@@ -1,5 +1,5 @@
 -- The nodes of an arena as the list of frames.
-use Rattle.std.proofs.Common.{◌≡◌, ◌⊎◌, inl, inr, ◌-◌, ◌^◌, Bool, true, false, cond, ◌||◌, List, [], ◌∷◌, Option, None, Some, IsSome, is_some, refl, sym, ap, ◌∙◌, arith, true≢false}
+use Rattle.std.proofs.Common.{◌++◌, ◌≡◌, ◌⊎◌, inl, inr, ◌-◌, ◌^◌, Bool, true, false, cond, ◌||◌, List, [], ◌∷◌, Option, None, Some, IsSome, is_some, refl, sym, ap, ◌∙◌, arith, true≢false}
 use Rattle.std.specs.Prelude.{◌==◌}
 use Rattle.std.specs.Bool.{Decides}
 use Rattle.std.specs.Option.{option_map, option_and_then}
@@ -19,6 +19,18 @@ same_handle-Decides a b =
 -- the two are one handle, or they are not
 pub same_or_other : (a b : Handle) → (same_handle a b ≡ true) ⊎ (same_handle a b ≡ false)
 same_or_other a b = (elim (same_handle a b) as (λ t. same_handle a b ≡ t → (same_handle a b ≡ true) ⊎ (same_handle a b ≡ false)) [ true ↦ inl | false ↦ inr ]) refl
+
+pub has-push : (k h : Handle) (hs : List Handle) → has_handle k (hs ++ h ∷ []) ≡ (has_handle k hs || same_handle h k)
+has-push k h [] = or_none (same_handle h k)
+  where
+    or_none : (b : Bool) → (b || false) ≡ (false || b)
+    or_none true = refl
+    or_none false = refl
+has-push k h (x ∷ hs) = ap (λ b. same_handle x k || b) (has-push k h hs) ∙ regroup (same_handle x k) (has_handle k hs) (same_handle h k)
+  where
+    regroup : (a b c : Bool) → (a || (b || c)) ≡ ((a || b) || c)
+    regroup true b c = refl
+    regroup false b c = refl
 
 module _ {D : Type 0} where
   joined-other : (k h : Handle) (o : Option (Node D)) (xs : List (Kept D)) → same_handle k h ≡ false → node_at (joined k o xs) h ≡ node_at xs h
@@ -109,6 +121,7 @@ module _ {D : Type 0} where
     nodes = tt;
     apart = tt;
     sized = λ h r e. absurd (unlive _ None refl (ap is_some (ap (option_map (λ x. x.node)) e)));
+    linked = λ h r e. absurd (unlive _ None refl (ap is_some (ap (option_map (λ x. x.node)) e)));
     shallow = λ h n e. absurd (unlive _ None refl (ap is_some e));
     paged = refl;
     few = omega arith;

@@ -4,29 +4,16 @@ use Rattle.std.specs.Prelude.{IfSome}
 use Rattle.std.proofs.Math.ListN.{get_or-map}
 use Rattle.pe_arena.specs.declared.handle.Handle.{Handle}
 use Rattle.pe_arena.specs.Slots.{Slot, Slots, live, mark, holding, with_value, IsNext, Updates}
-use Rattle.pe_arena.proofs.Live.{unlive-next, mark-holding, mark-le-holding, length-holding, mark-with_value, write-updates}
+use Rattle.pe_arena.proofs.Live.{unlive-next, mark-holding, mark-le-holding, length-holding}
 use Rattle.std.specs.Option.{option_map}
 use Rattle.pe_frames.specs.declared.row.Row.{Row}
 use Rattle.pe_frames.specs.declared.node.Node.{Node}
 use Rattle.pe_frames.specs.Forest.{Entry, page_size, first_of, top_of, same_handle, has_handle, entry_of, node_in, mark_of, page_count, StayDead}
-use Rattle.pe_frames.specs.Kept.{above_in, Kept, joined, kept, entry_in, entries_in, shown, node_at, AreNodes, AreApart, IsSized, forest_in, IsForest}
+use Rattle.pe_frames.specs.Kept.{above_in, Kept, joined, kept, entry_in, entries_in, shown, node_at, AreNodes, AreApart, IsSized, HasLinks, forest_in, IsForest}
+use Rattle.pe_frames.specs.Links.{Rewrites}
+use Rattle.pe_frames.proofs.Writes.{different, mark-kept, slots-kept}
 use Rattle.pe_frames.proofs.Pages.{page-empty, page-more, page-same}
-use Rattle.pe_frames.proofs.Nodes.{kept-live, same_handle-Decides, same_or_other}
-
-different : (a b : Handle) → same_handle a b ≡ false → a ≢ b
-different a b e = λ q. true≢false (sym ((same_handle-Decides a b).1 q) ∙ e)
-
-has-push : (k h : Handle) (hs : List Handle) → has_handle k (hs ++ h ∷ []) ≡ (has_handle k hs || same_handle h k)
-has-push k h [] = or_none (same_handle h k)
-  where
-    or_none : (b : Bool) → (b || false) ≡ (false || b)
-    or_none true = refl
-    or_none false = refl
-has-push k h (x ∷ hs) = ap (λ b. same_handle x k || b) (has-push k h hs) ∙ regroup (same_handle x k) (has_handle k hs) (same_handle h k)
-  where
-    regroup : (a b c : Bool) → (a || (b || c)) ≡ ((a || b) || c)
-    regroup true b c = refl
-    regroup false b c = refl
+use Rattle.pe_frames.proofs.Nodes.{has-push, kept-live, same_handle-Decides, same_or_other}
 
 either : (a b : Bool) → (a || b) ≡ true → (a ≡ true) ⊎ (b ≡ true)
 either true b e = inl refl
@@ -44,15 +31,10 @@ false_if : (b : Bool) → (b ≡ true → ⊥) → b ≡ false
 false_if true f = absurd (f refl)
 false_if false f = refl
 
-if_some : {A : Type 0} (P : A → Type 0) (o : Option A) (x : A) → o ≡ Some x → IfSome o P → P x
-if_some P None x e p = absurd cc
-if_some P (Some y) x e p = let q : y ≡ x = cc in subst P q p
+some_same : {A : Type 0} {a b : A} → Some a ≡ Some b → a ≡ b
+some_same e = cc
 
 module _ {D : Type 0} where
-  -- what was written of the row that was taken in
-  pub name_written : (mid t : Slots (Row D)) (h : Handle) (r : Row D) → live mid h ≡ Some r → IfSome (live mid h) (λ x. t ≡ with_value mid h.slot (record x { node = record x.node { top = h } })) → t ≡ with_value mid h.slot (record r { node = record r.node { top = h } })
-  name_written mid t h r e p = if_some (λ x. t ≡ with_value mid h.slot (record x { node = record x.node { top = h } })) (live mid h) r e p
-
   -- handles that name what they did keep what they kept
   kept-same : (s t : Slots (Row D)) (h : Handle) → ((k : Handle) → k ≢ h → shown t k ≡ shown s k) → (hs : List Handle) (xs : List (Kept D)) → has_handle h hs ≡ false → kept t hs xs ≡ kept s hs xs
   unfolding kept
@@ -118,13 +100,15 @@ module _ {D : Type 0} where
     pub IsForest-made : (count : ℕ) → node_in (entry_in (entries_in (kept s order [])) (record { handle = h; node = m })) ≡ m → m.depth ≤ 64 → count ≤ 64
         → count ≡ page_count (entry_in (entries_in (kept s order [])) (record { handle = h; node = m }) ∷ entries_in (kept s order []))
         → ((k : Handle) (r : Row D) → live t k ≡ Some r → r.node.parent ≡ None → IsSized (entry_in (entries_in (kept s order [])) (record { handle = h; node = m }) ∷ entries_in (kept s order [])) k r)
+        → ((k : Handle) (r : Row D) → live t k ≡ Some r → HasLinks (entry_in (entries_in (kept s order [])) (record { handle = h; node = m }) ∷ entries_in (kept s order [])) k r)
         → IsForest t (order ++ h ∷ []) count
-    IsForest-made count node deep few paged sized = record {
+    IsForest-made count node deep few paged sized linked = record {
       listed = listed-made;
       given = given-made;
       nodes = subst AreNodes (sym kept-made) (node, is.nodes);
       apart = subst AreApart (sym kept-made) (unkept, is.apart);
       sized = λ k r e p. subst (λ es. IsSized es k r) (sym entries-made) (sized k r e p);
+      linked = λ k r e. subst (λ es. HasLinks es k r) (sym entries-made) (linked k r e);
       shallow = shallow-made deep;
       paged = paged ∙ ap page_count (sym entries-made);
       few = few;
@@ -155,21 +139,37 @@ module _ {D : Type 0} where
               ∙ dead.gone;
         }
 
-  -- a row was taken in under this handle, and then the row of a live handle was written
-  pub record Steps (s mid t : Slots (Row D)) (h : Handle) (row : Row D) (k : Handle) (q r : Row D) : Type 0 where
+  -- a row was taken in under this handle, and then rows were written, whose nodes stay
+  pub record Steps (s mid t : Slots (Row D)) (h : Handle) (row : Row D) (change : Handle → Row D → Row D) : Type 0 where
     pub next : IsNext s h.slot
     pub fresh : h.generation ≡ mark s h.slot
     pub slots : mid ≡ holding s h.slot row
     pub taken : Updates s mid h (Some row)
-    pub found : live mid k ≡ Some q
-    pub then : t ≡ with_value mid k.slot r
+    pub then : Rewrites mid t change
+    pub keeps : (k : Handle) (r : Row D) → k ≢ h → (change k r).node ≡ r.node
 
-  module _ (s mid t : Slots (Row D)) (h : Handle) (row : Row D) (k : Handle) (q r : Row D) (steps : Steps s mid t h row k q r) where
-    pub written : Updates mid t k (Some r)
-    written = subst (λ x. Updates mid x k (Some r)) (sym steps.then) (write-updates mid k r (ap is_some steps.found))
+  -- the row that stood at the handle before
+  pub record Was (s : Slots (Row D)) (change : Handle → Row D → Row D) (j : Handle) (x : Row D) : Type 0 where
+    pub row : Row D
+    pub found : live s j ≡ Some row
+    pub is : change j row ≡ x
+
+  was-of : (s : Slots (Row D)) (change : Handle → Row D → Row D) (j : Handle) (x : Row D) → option_map (change j) (live s j) ≡ Some x → Was s change j x
+  was-of s change j x e = by_row (live s j) refl e
+    where
+      by_row : (o : Option (Row D)) → live s j ≡ o → option_map (change j) o ≡ Some x → Was s change j x
+      by_row None q f = absurd (true≢false (sym (ap is_some f)))
+      by_row (Some r) q f = record { row = r; found = q; is = some_same f }
+
+  module _ (s mid t : Slots (Row D)) (h : Handle) (row : Row D) (change : Handle → Row D → Row D) (steps : Steps s mid t h row change) where
+    row-here : live t h ≡ Some (change h row)
+    row-here = steps.then.rows h ∙ ap (option_map (change h)) steps.taken.changed
+
+    row-there : (j : Handle) → j ≢ h → live t j ≡ option_map (change j) (live s j)
+    row-there j ne = steps.then.rows j ∙ ap (option_map (change j)) (steps.taken.others j ne)
 
     mark-then : (j : ℕ) → mark t j ≡ mark mid j
-    mark-then j = ap (λ x. mark x j) steps.then ∙ mark-with_value mid k r (ap is_some steps.found) j
+    mark-then j = mark-kept mid t steps.then.same j
 
     mark-le : (j : ℕ) → mark s j ≤ mark t j
     mark-le j =
@@ -187,12 +187,11 @@ module _ {D : Type 0} where
         omega arith
 
     made-then : t.made ≡ s.made + 1
-    made-then = ap (λ x. x.made) steps.then ∙ ap (λ x. x.made) steps.slots
+    made-then = steps.then.same.made ∙ ap (λ x. x.made) steps.slots
 
     counted-then : length t.slots + s.made ≤ length s.slots + t.made
     counted-then =
-        let e = ap (λ x. length x.slots) steps.then in
-        let n = length-set mid.slots k.slot (record { mark = mark mid k.slot; value = Some r }) in
+        let e = slots-kept mid t steps.then.same in
         let f = ap (λ x. length x.slots) steps.slots in
         let l = length-holding s h.slot row steps.next in
         let d = made-then in
@@ -201,100 +200,82 @@ module _ {D : Type 0} where
     unseen-before : shown s h ≡ None
     unseen-before = ap (option_map (λ x. x.node)) (unlive-next s h steps.fresh)
 
-    -- what was written is the new row
-    pub Makes-same : k ≡ h → Makes s t h r.node
-    Makes-same e = record {
+    shown-there : (j : Handle) → j ≢ h → shown t j ≡ shown s j
+    shown-there j ne = ap (option_map (λ x. x.node)) (row-there j ne) ∙ same-nodes (live s j)
+      where
+        same-nodes : (o : Option (Row D)) → option_map (λ x. x.node) (option_map (change j) o) ≡ option_map (λ x. x.node) o
+        same-nodes None = refl
+        same-nodes (Some r) = ap Some (steps.keeps j r ne)
+
+    -- so a frame was made
+    pub Makes-steps : Makes s t h (change h row).node
+    Makes-steps = record {
       fresh = steps.fresh;
       unseen = unseen-before;
-      here = ap (λ x. shown t x) (sym e) ∙ ap (option_map (λ x. x.node)) written.changed;
-      there = λ j ne. ap (option_map (λ x. x.node)) (written.others j (λ f. ne (f ∙ e)) ∙ steps.taken.others j ne);
+      here = ap (option_map (λ x. x.node)) row-here;
+      there = shown-there;
       marks = mark-le;
       given = mark-here;
       counted = counted-then;
       made = made-then;
-      limit = ap (λ x. x.limit) steps.then ∙ ap (λ x. x.limit) steps.slots;
-      first = ap (λ x. x.first) steps.then ∙ ap (λ x. x.first) steps.slots;
+      limit = steps.then.same.limit ∙ ap (λ x. x.limit) steps.slots;
+      first = steps.then.same.first ∙ ap (λ x. x.first) steps.slots;
     }
 
-    some_same : {A : Type 0} {a b : A} → Some a ≡ Some b → a ≡ b
-    some_same e = cc
-
-    -- the sizes of pages, once a top frame was made
-    pub sized-top : (order : List Handle) (pages : ℕ) → IsForest s order pages → k ≡ h → r.size ≡ 1 → r.node.parent ≡ None
-        → (j : Handle) (x : Row D) → live t j ≡ Some x → x.node.parent ≡ None
-        → IsSized (entry_in (entries_in (kept s order [])) (record { handle = h; node = r.node }) ∷ entries_in (kept s order [])) j x
-    sized-top order pages is e one bare j x found top = elim (same_or_other h j) as (λ _. IsSized (entry_in (entries_in (kept s order [])) (record { handle = h; node = r.node }) ∷ entries_in (kept s order [])) j x) [
+    -- what holds of the new row, and of each other row as it was changed, holds of all
+    pub each-row : (P : Handle → Row D → Type 0) → P h (change h row) → ((j : Handle) (r : Row D) → j ≢ h → live s j ≡ Some r → P j (change j r)) → (j : Handle) (x : Row D) → live t j ≡ Some x → P j x
+    each-row P new old j x found = elim (same_or_other h j) as (λ _. P j x) [
       | inl q ↦
           let hj = (same_handle-Decides h j).0 q in
-          let rx : r ≡ x = some_same (sym written.changed ∙ ap (live t) (e ∙ hj) ∙ found) in
-          let size = ap (λ y. y.size) rx in
-          let none : node_at (kept s order []) j ≡ None = ap (node_at (kept s order [])) (sym hj) ∙ kept-live s h order (is.listed h) ∙ unseen-before in
-          let empty = page-empty (kept s order []) is.nodes is.apart j none in
-          let more = page-more (entry_in (entries_in (kept s order [])) (record { handle = h; node = r.node })) (entries_in (kept s order [])) j (itself ∙ hj) in
-          record { size = omega (arith, size, empty, more, one); within = omega (arith, size, one) }
+          let rx : change h row ≡ x = some_same (sym row-here ∙ ap (live t) hj ∙ found) in
+          subst (λ k. P k x) hj (subst (P h) rx new)
       | inr q ↦
           let ne : j ≢ h = (λ f. different h j q (sym f)) in
-          let before = sym (written.others j (λ f. ne (f ∙ e)) ∙ steps.taken.others j ne) ∙ found in
-          let was = is.sized j x before top in
-          let same = page-same (entry_in (entries_in (kept s order [])) (record { handle = h; node = r.node })) (entries_in (kept s order [])) j (ap (λ y. same_handle y j) itself ∙ q) in
-          record { size = was.size ∙ sym same; within = was.within }
+          let was = was-of s change j x (sym (row-there j ne) ∙ found) in
+          subst (P j) was.is (old j was.row ne was.found)
     ]
-      where
-        itself : top_of (entry_in (entries_in (kept s order [])) (record { handle = h; node = r.node })) ≡ h
-        itself = ap (λ p. first_of (above_in (entries_in (kept s order [])) p) h) bare
 
-    -- what was written is another row, whose node is as before
-    pub Makes-other : k ≢ h → r.node ≡ q.node → Makes s t h row.node
-    Makes-other apart same = record {
-      fresh = steps.fresh;
-      unseen = unseen-before;
-      here = ap (option_map (λ x. x.node)) (written.others h (λ f. apart (sym f)) ∙ steps.taken.changed);
-      there = there;
-      marks = mark-le;
-      given = mark-here;
-      counted = counted-then;
-      made = made-then;
-      limit = ap (λ x. x.limit) steps.then ∙ ap (λ x. x.limit) steps.slots;
-      first = ap (λ x. x.first) steps.then ∙ ap (λ x. x.first) steps.slots;
-    }
-      where
-        there : (j : Handle) → j ≢ h → shown t j ≡ shown s j
-        there j ne = elim (same_or_other k j) as (λ _. shown t j ≡ shown s j) [
-          | inl f ↦
-              let kj = (same_handle-Decides k j).0 f in
-              ap (shown t) (sym kj)
-              ∙ ap (option_map (λ x. x.node)) written.changed
-              ∙ ap Some same
-              ∙ ap (option_map (λ x. x.node)) (sym steps.found ∙ steps.taken.others k apart)
-              ∙ ap (shown s) kj
-          | inr f ↦ ap (option_map (λ x. x.node)) (written.others j (λ e. different k j f (sym e)) ∙ steps.taken.others j ne)
-        ]
+    module _ (order : List Handle) (pages : ℕ) (is : IsForest s order pages) where
+      -- the sizes of pages, once a top frame was made
+      pub sized-top : (e : Entry D) → top_of e ≡ h → (change h row).size ≡ 1 → ((j : Handle) (r : Row D) → j ≢ h → (change j r).size ≡ r.size)
+          → (j : Handle) (x : Row D) → live t j ≡ Some x → x.node.parent ≡ None → IsSized (e ∷ entries_in (kept s order [])) j x
+      sized-top e itself one same = each-row (λ j x. x.node.parent ≡ None → IsSized (e ∷ entries_in (kept s order [])) j x)
+          (λ bare.
+          let none : node_at (kept s order []) h ≡ None = kept-live s h order (is.listed h) ∙ unseen-before in
+          let empty = page-empty (kept s order []) is.nodes is.apart h none in
+          let more = page-more e (entries_in (kept s order [])) h itself in
+          record { size = omega (arith, empty, more, one); within = omega (arith, one) })
+          (λ j r ne found top.
+          let size = same j r ne in
+          let was = is.sized j r found (sym (ap (λ n. n.parent) (steps.keeps j r ne)) ∙ top) in
+          let other = page-same e (entries_in (kept s order [])) j (ap (λ y. same_handle y j) itself ∙ other_handle j ne) in
+          let within = was.within in
+          record { size = size ∙ was.size ∙ sym other; within = omega (arith, size, within) })
+        where
+          other_handle : (j : Handle) → j ≢ h → same_handle h j ≡ false
+          other_handle j ne = false_if (same_handle h j) (λ f. ne (sym ((same_handle-Decides h j).0 f)))
 
-    -- the sizes of pages, once a frame was made below another
-    pub sized-below : (order : List Handle) (pages : ℕ) → IsForest s order pages → k ≢ h
-        → (e : Entry D) → top_of e ≡ k → IsSome row.node.parent → r.size ≡ q.size + 1 → q.size ≤ 255 → q.node.parent ≡ None
-        → (j : Handle) (x : Row D) → live t j ≡ Some x → x.node.parent ≡ None
-        → IsSized (e ∷ entries_in (kept s order [])) j x
-    sized-below order pages is apart e top below more room bare j x found none = elim (same_or_other h j) as (λ _. IsSized (e ∷ entries_in (kept s order [])) j x) [
-      | inl f ↦
-          let rx : row ≡ x = some_same (sym (written.others h (λ y. apart (sym y)) ∙ steps.taken.changed) ∙ ap (live t) ((same_handle-Decides h j).0 f) ∙ found) in
-          absurd (true≢false (sym below ∙ ap (λ y. is_some y.node.parent) rx ∙ ap is_some none))
-      | inr f ↦
-          let ne : j ≢ h = (λ y. different h j f (sym y)) in
-          elim (same_or_other k j) as (λ _. IsSized (e ∷ entries_in (kept s order [])) j x) [
+      -- and once a frame was made below another
+      pub sized-below : (e : Entry D) (k : Handle) → top_of e ≡ k → IsSome (change h row).node.parent
+          → ((j : Handle) (r : Row D) → j ≢ h → (change j r).size ≡ cond (same_handle k j) (r.size + 1) r.size)
+          → ((r : Row D) → live s k ≡ Some r → r.size ≤ 255)
+          → (j : Handle) (x : Row D) → live t j ≡ Some x → x.node.parent ≡ None → IsSized (e ∷ entries_in (kept s order [])) j x
+      sized-below e k top below sizes room = each-row (λ j x. x.node.parent ≡ None → IsSized (e ∷ entries_in (kept s order [])) j x)
+          (λ bare. absurd (true≢false (sym below ∙ ap is_some bare)))
+          (λ j r ne found none.
+          let was = is.sized j r found (sym (ap (λ n. n.parent) (steps.keeps j r ne)) ∙ none) in
+          let size = sizes j r ne in
+          let within = was.within in
+          let before = was.size in
+          elim (same_or_other k j) as (λ _. IsSized (e ∷ entries_in (kept s order [])) j (change j r)) [
             | inl y ↦
                 let kj = (same_handle-Decides k j).0 y in
-                let rx : r ≡ x = some_same (sym written.changed ∙ ap (live t) kj ∙ found) in
-                let size = ap (λ z. z.size) rx in
-                let was = is.sized k q (sym (steps.taken.others k apart) ∙ steps.found) bare in
-                let at = ap (page_size (entries_in (kept s order []))) kj in
+                let more = size ∙ ap (λ b. cond b (r.size + 1) r.size) y in
                 let then = page-more e (entries_in (kept s order [])) j (top ∙ kj) in
-                let before = was.size in
-                record { size = omega (arith, size, at, then, before, more); within = omega (arith, size, more, room) }
+                let small = room r (ap (live s) kj ∙ found) in
+                record { size = omega (arith, more, then, before); within = omega (arith, more, small) }
             | inr y ↦
-                let before = sym (written.others j (λ z. different k j y (sym z)) ∙ steps.taken.others j ne) ∙ found in
-                let was = is.sized j x before none in
+                let as_was = size ∙ ap (λ b. cond b (r.size + 1) r.size) y in
                 let same = page-same e (entries_in (kept s order [])) j (ap (λ z. same_handle z j) top ∙ y) in
-                record { size = was.size ∙ sym same; within = was.within }
-          ]
-    ]
+                record { size = as_was ∙ before ∙ sym same; within = omega (arith, as_was, within) }
+          ])

@@ -24,11 +24,11 @@ module _ {D : Type 0} where
     pub bare : top.above ≡ []
 
   -- a frame that another embeds, or a top frame
-  data Above (es : List (Entry D)) (ks : List Handle) : Type 0 where
+  pub data Above (es : List (Entry D)) (ks : List Handle) : Type 0 where
     nothing : ks ≡ [] → Above es ks
     below : (p : Handle) (a : Entry D) → entry_of es p ≡ Some a → ks ≡ path a → Above es ks
 
-  above-of : (es : List (Entry D)) (p : Option Handle) → Above es (above_in es p)
+  pub above-of : (es : List (Entry D)) (p : Option Handle) → Above es (above_in es p)
   above-of es None = nothing refl
   above-of es (Some p) = (elim (entry_of es p) as (λ o. entry_of es p ≡ o → Above es (unwrap_or (option_map path o) [])) [
     | None ↦ λ e. nothing refl

@@ -8,13 +8,11 @@ use Rattle.pe_arena.proofs.Live.{mark-with_value, write-updates}
 use Rattle.pe_frames.specs.declared.row.Row.{Row}
 use Rattle.pe_frames.specs.declared.node.Node.{Node}
 use Rattle.pe_frames.specs.Forest.{Entry, path, same_handle, entry_of, node_in, top_of, is_top, page_size, page_count, redone, with_doc}
+use Rattle.pe_frames.specs.Order.{is_child}
 use Rattle.pe_frames.specs.Kept.{above_in, Kept, joined, kept, shown, node_at, entry_in, entries_in, AreNodes, AreApart, forest_in, IsForest}
+use Rattle.pe_frames.specs.Links.{links_by, young, siblings, links_in}
+use Rattle.pe_frames.proofs.Writes.{map-set_same}
 use Rattle.pe_frames.proofs.Nodes.{same_handle-Decides, same_or_other}
-
-map-set_same : {A B : Type 0} (f : A → B) (xs : List A) (i : ℕ) (y d : A) → f y ≡ f (get_or xs i d) → map f (set xs i y) ≡ map f xs
-map-set_same f [] i y d e = refl
-map-set_same f (x ∷ xs) zero y d e = ap (λ b. b ∷ map f xs) e
-map-set_same f (x ∷ xs) (suc i) y d e = ap (λ bs. f x ∷ bs) (map-set_same f xs i y d e)
 
 module _ {D : Type 0} (h : Handle) (w : D) where
   -- the kept frame with this document, if it is the named one
@@ -25,7 +23,7 @@ module _ {D : Type 0} (h : Handle) (w : D) where
   abbrev renode : Handle → Node D → Node D
   renode k n = record n { doc = cond (same_handle k h) w n.doc }
 
-  entry_of-redone : (es : List (Entry D)) (p : Handle) → entry_of (map (redone h w) es) p ≡ option_map (redone h w) (entry_of es p)
+  pub entry_of-redone : (es : List (Entry D)) (p : Handle) → entry_of (map (redone h w) es) p ≡ option_map (redone h w) (entry_of es p)
   entry_of-redone [] p = refl
   entry_of-redone (e ∷ es) p = by_test (same_handle e.handle p) (entry_of-redone es p)
     where
@@ -92,6 +90,14 @@ module _ {D : Type 0} (h : Handle) (w : D) where
       by_test true rest = omega (arith, rest)
       by_test false rest = rest
 
+  pub young-redone : (es : List (Entry D)) (p : Handle) → young (map (redone h w) es) p ≡ young es p
+  young-redone [] p = refl
+  young-redone (e ∷ es) p = ap (λ ks. cond (is_child p e) (e.handle ∷ ks) ks) (young-redone es p)
+
+  links-redone : (es : List (Entry D)) (k : Handle) (p : Option Handle) → links_in (map (redone h w) es) k p ≡ links_in es k p
+  links-redone es k None = ap (λ ks. links_by ks [] k) (young-redone es k)
+  links-redone es k (Some p) = ap (λ ks. links_by ks (young (map (redone h w) es) p) k) (young-redone es k) ∙ ap (λ ks. links_by (young es k) ks k) (young-redone es p)
+
   -- the row of the named frame was written
   module _ (s : Slots (Row D)) (r : Row D) (found : live s h ≡ Some r) where
     after : Row D
@@ -133,13 +139,13 @@ module _ {D : Type 0} (h : Handle) (w : D) where
     same_some e = cc
 
     -- every other row is as it was, and this one but for the document
-    row-redo : (k : Handle) (x : Row D) → live (with_value s h.slot (record r { node = record r.node { doc = w } })) k ≡ Some x → (y : Row D) × (live s k ≡ Some y) × (x.size ≡ y.size) × (x.node.parent ≡ y.node.parent) × (x.node.depth ≡ y.node.depth)
-    row-redo k x e = elim (same_or_other k h) as (λ _. (y : Row D) × (live s k ≡ Some y) × (x.size ≡ y.size) × (x.node.parent ≡ y.node.parent) × (x.node.depth ≡ y.node.depth)) [
+    row-redo : (k : Handle) (x : Row D) → live (with_value s h.slot (record r { node = record r.node { doc = w } })) k ≡ Some x → (y : Row D) × (live s k ≡ Some y) × (x.size ≡ y.size) × (x.node.parent ≡ y.node.parent) × (x.node.depth ≡ y.node.depth) × (x.links ≡ y.links)
+    row-redo k x e = elim (same_or_other k h) as (λ _. (y : Row D) × (live s k ≡ Some y) × (x.size ≡ y.size) × (x.node.parent ≡ y.node.parent) × (x.node.depth ≡ y.node.depth) × (x.links ≡ y.links)) [
       | inl q ↦
           let kh = (same_handle-Decides k h).0 q in
           let rx : x ≡ record r { node = record r.node { doc = w } } = same_some (sym e ∙ ap (live (with_value s h.slot (record r { node = record r.node { doc = w } }))) kh ∙ up.changed) in
-          (r, ap (live s) kh ∙ found, ap (λ z. z.size) rx, ap (λ z. z.node.parent) rx, ap (λ z. z.node.depth) rx)
-      | inr q ↦ (x, sym (up.others k (λ f. true≢false (sym ((same_handle-Decides k h).1 f) ∙ q))) ∙ e, refl, refl, refl)
+          (r, ap (live s) kh ∙ found, ap (λ z. z.size) rx, ap (λ z. z.node.parent) rx, ap (λ z. z.node.depth) rx, ap (λ z. z.links) rx)
+      | inr q ↦ (x, sym (up.others k (λ f. true≢false (sym ((same_handle-Decides k h).1 f) ∙ q))) ∙ e, refl, refl, refl, refl)
     ]
 
     shown_row : (o : Option (Row D)) (n : Node D) → option_map (λ y. y.node) o ≡ Some n → (x : Row D) × (o ≡ Some x) × (x.node ≡ n)
@@ -168,6 +174,12 @@ module _ {D : Type 0} (h : Handle) (w : D) where
             let b = was.within in
             let c = row.2 in
             record { size = c ∙ a ∙ sym same; within = omega arith });
+        linked = λ k x e.
+            (let row = row-redo k x e in
+            row.5
+            ∙ is.linked k row.0 row.1
+            ∙ ap (links_in (entries_in (kept s order [])) k) (sym row.3)
+            ∙ sym (ap (λ es. links_in es k x.node.parent) entries-written ∙ links-redone (entries_in (kept s order [])) k x.node.parent));
         shallow = λ k n e.
             (let x = shown_row (live (with_value s h.slot (record r { node = record r.node { doc = w } })) k) n e in
             let row = row-redo k x.0 x.1 in

@@ -2,7 +2,7 @@
 ghost use Rattle.std.specs.Prelude.{◌≡◌, ◌≢◌, ◌⊎◌, ◌↔◌, ◌+◌, ◌<◌, ◌≤◌, ◌-◌, ◌^◌, ℕ, IsSome, IsTrue, IfSome, IsSomeAnd, [], ◌∷◌, IfOk, IfErr, OnOk, OnErr, None, Err, option_copied, vec_len, vec_capacity};
 ghost use Rattle.std.specs.Option.{option_map, option_and_then, option_copied_mut};
 ghost use Rattle.std.specs.Borrow.{sem};
-ghost use Rattle.pe_frames.specs.Forest.{entry_of, node_of, doc_of, parent_of, top_of, page_count, page_size, mark_of, path_of, depth_of, refusal, embed_fault, opened, StayDead};
+ghost use Rattle.pe_frames.specs.Forest.{entry_of, node_of, doc_of, parent_of, top_of, page_count, page_size, mark_of, path_of, depth_of, refusal, embed_fault, opened, IsDead, StayDead};
 ghost use Rattle.pe_frames.specs.Order.{head_of, closed, navigated, handles_under, docs_under};
 ghost use Rattle.pe_frames.specs.Links.{young};
 ghost use Rattle.pe_frames.specs.Kept.{standing_in};
@@ -177,14 +177,15 @@ impl<D: Numbered> Frames<D> {
         })
     }
 
-    /// Gives the frame another document and removes all frames below it. The documents that were
-    /// there are given back in tree order, that of the frame first.
+    /// Gives the frame another document and removes all frames below it, whose handles are dead then.
+    /// The documents that were there are given back in tree order, that of the frame first.
     pub fn navigate(&mut self, h: Handle, doc: D) -> Result<Vec<D>, TreeFault>
         ensures entries { OnOk result (self.new.entries ≡ navigated h doc self.old.entries) }
         ensures documents { IfOk result (λ docs. docs.items ≡ docs_under self.old.entries h) }
         ensures made { self.new.made ≡ self.old.made }
         ensures marks { self.new.marks ≡ self.old.marks }
         ensures dead { StayDead self.old self.new }
+        ensures gone { OnOk result ((k : Handle) → IsSome (entry_of self.old.entries k) → entry_of self.new.entries k ≡ None → IsDead self.new k) }
         ensures stale { (result ≡ Err TreeFault.Stale) ↔ (entry_of self.old.entries h ≡ None) }
         ensures only { IfErr result (λ e. (e ≡ TreeFault.Stale) ⊎ (e ≡ TreeFault.Memory)) }
         ensures err { OnErr result (self.new ≡ self.old) }
@@ -193,25 +194,26 @@ impl<D: Numbered> Frames<D> {
             Some(here) => here,
             None => return Err(TreeFault::Stale),
         };
-        let (below, mut docs) = match self.leaving(h) {
+        let (removed, mut docs) = match self.leaving(h) {
             Ok(leaving) => leaving,
             Err(_) => return Err(TreeFault::Memory),
         };
         docs.push_reserved(renew(&mut self.rows, h, doc));
-        take_all(&mut self.rows, &below, &mut docs);
-        shrink_page(&mut self.rows, Some(here.top), below.len() as u32);
-        sweep(&self.rows, &mut self.order, &mut self.dead, below.len());
+        take_all(&mut self.rows, &removed, &mut docs);
+        shrink_page(&mut self.rows, Some(here.top), removed.len() as u32);
+        sweep(&self.rows, &mut self.order, &mut self.dead, removed.len());
         Ok(docs)
     }
 
-    /// Removes the frame and all below it. Their documents are given back in tree order, that of the
-    /// frame first.
+    /// Removes the frame and all below it, whose handles are dead then. Their documents are given back
+    /// in tree order, that of the frame first.
     pub fn close(&mut self, h: Handle) -> Result<Vec<D>, TreeFault>
         ensures entries { OnOk result (self.new.entries ≡ closed h self.old.entries) }
         ensures documents { IfOk result (λ docs. docs.items ≡ docs_under self.old.entries h) }
         ensures made { self.new.made ≡ self.old.made }
         ensures marks { self.new.marks ≡ self.old.marks }
         ensures dead { StayDead self.old self.new }
+        ensures gone { OnOk result ((k : Handle) → IsSome (entry_of self.old.entries k) → entry_of self.new.entries k ≡ None → IsDead self.new k) }
         ensures stale { (result ≡ Err TreeFault.Stale) ↔ (entry_of self.old.entries h ≡ None) }
         ensures only { IfErr result (λ e. (e ≡ TreeFault.Stale) ⊎ (e ≡ TreeFault.Memory)) }
         ensures err { OnErr result (self.new ≡ self.old) }

@@ -84,12 +84,7 @@ fn is_live<D>(rows: &Arena<Row<D>>, h: Handle) -> bool
 }
 
 // Drops the dead handles of the list, once they are the greater half of it: `dead` counts them.
-pub(crate) fn sweep<D>(
-    rows: &Arena<Row<D>>,
-    order: &mut Vec<Handle>,
-    dead: &mut usize,
-    more: usize,
-)
+pub(crate) fn sweep<D>(rows: &Arena<Row<D>>, order: &mut Vec<Handle>, dead: &mut usize, more: usize)
     ensures { Sweeps rows.now order.old.items order.new.items }
 {
     *dead = dead.saturating_add(more);

@@ -1,5 +1,5 @@
 //! The rows of frames.
-ghost use Rattle.std.specs.Prelude.{◌≡◌, ◌+◌, ◌-◌, ◌<◌, ◌≤◌, ◌^◌, IsSome, IfSome, length, IfOk, OnErr, Some, None, if◌then◌else◌, is_none};
+ghost use Rattle.std.specs.Prelude.{◌≡◌, ◌↔◌, ◌+◌, ◌-◌, ◌<◌, ◌≤◌, ◌^◌, IsSome, IsTrue, IfSome, length, IfOk, OnErr, Some, None, if◌then◌else◌, is_none};
 ghost use Rattle.pe_arena.specs.Slots.{live, mark, holding, with_value, IsNext, Updates};
 ghost use Rattle.pe_frames.specs.Links.{Rewrites, at, with_first, with_last, with_earlier, with_later, linked};
 
@@ -81,10 +81,7 @@ pub(crate) struct Row<D> {
 }
 
 // Takes a row in. Fewer slots were made than the arena may make, so it is never full.
-pub(crate) fn put_row<D: Drop>(
-    rows: &mut Arena<Row<D>>,
-    row: Row<D>,
-) -> Result<Handle, AllocError>
+pub(crate) fn put_row<D: Drop>(rows: &mut Arena<Row<D>>, row: Row<D>) -> Result<Handle, AllocError>
     requires made { rows.old.made < 2 ^ 32 - 1 }
     requires slots { length rows.old.slots ≤ rows.old.made }
     requires limit { rows.old.limit ≡ 2 ^ 32 - 1 }
@@ -173,11 +170,7 @@ pub(crate) fn set_last<D>(rows: &mut Arena<Row<D>>, h: Option<Handle>, last: Opt
 }
 
 // Writes the sibling before the frame, if one is named.
-pub(crate) fn set_earlier<D>(
-    rows: &mut Arena<Row<D>>,
-    h: Option<Handle>,
-    earlier: Option<Handle>,
-)
+pub(crate) fn set_earlier<D>(rows: &mut Arena<Row<D>>, h: Option<Handle>, earlier: Option<Handle>)
     requires { IfSome h (λ k. IsSome (live rows.old k)) }
     ensures { Rewrites rows.old rows.new (at h (with_earlier earlier)) }
 {
@@ -196,15 +189,18 @@ pub(crate) fn set_later<D>(rows: &mut Arena<Row<D>>, h: Option<Handle>, later: O
     }
 }
 
+// Whether this is the handle.
+pub(crate) fn names(named: Option<Handle>, h: Handle) -> bool
+    ensures { IsTrue result ↔ (named ≡ Some h) }
+{
+    named == Some(h)
+}
+
 // The handle, where there is no sibling.
 pub(crate) fn unless(sibling: Option<Handle>, h: Option<Handle>) -> Option<Handle>
     ensures { result ≡ (if is_none sibling then h else None) }
 {
-    if sibling.is_none() {
-        h
-    } else {
-        None
-    }
+    if sibling.is_none() { h } else { None }
 }
 
 // Puts the frame behind the last child of the parent, if there is one: it is the last child then.

@@ -85,6 +85,14 @@ fn sixty_four_levels(rt: HostRuntime) {
     assert_eq!(rt; child(&mut frames, handle(64), 65), Err(TreeFault::Stale));
     assert_eq!(rt; frames.top(handle(63)), Some(handle(0)));
     assert_eq!(rt; frames.page_size(handle(63)), Some(64));
+    assert_eq!(rt;
+        frames.preorder_next(handle(0), handle(62)),
+        Some(handle(63))
+    );
+    assert_eq!(rt; frames.preorder_next(handle(0), handle(63)), None);
+    let closed = frames.close(handle(32)).map(|docs| docs.len());
+    assert_eq!(rt; closed, Ok(32));
+    assert_eq!(rt; frames.page_size(handle(0)), Some(32));
 }
 
 #[test]
@@ -101,4 +109,148 @@ fn two_hundred_and_fifty_six_frames(rt: HostRuntime) {
     assert_eq!(rt; frames.page_size(handle(255)), Some(256));
     assert_eq!(rt; frames.page_size(handle(256)), None);
     assert_eq!(rt; frames.pages(), 1);
+    assert!(rt; have_each(frames.close(handle(0)), 256));
+    assert_eq!(rt; frames.page_size(handle(0)), None);
+    assert_eq!(rt; frames.pages(), 0);
+}
+
+fn again(slot: u32) -> Handle {
+    Handle {
+        slot,
+        generation: 1,
+    }
+}
+
+// Navigates the frame to a document of this number.
+fn go(frames: &mut Frames<Document>, h: Handle, number: u32) -> Result<Vec<Document>, TreeFault>
+    requires low { 1 ≤ number }
+    requires high { number ≤ 1000 }
+{
+    let document = Document {
+        number: DocNo::of(number),
+    };
+    frames.navigate(h, document)
+}
+
+// Whether the documents have these numbers.
+fn have(docs: Result<Vec<Document>, TreeFault>, numbers: &[u32]) -> bool {
+    let Ok(docs) = docs else {
+        return false;
+    };
+    if docs.len() != numbers.len() {
+        return false;
+    }
+    for (doc, number) in docs.iter().zip(numbers) {
+        if doc.number.get() != *number {
+            return false;
+        }
+    }
+    true
+}
+
+// Whether the documents have the numbers from 1 up to this one.
+fn have_each(docs: Result<Vec<Document>, TreeFault>, count: usize) -> bool {
+    let Ok(docs) = docs else {
+        return false;
+    };
+    for (i, doc) in docs.iter().enumerate() {
+        if doc.number.get() as usize != i + 1 {
+            return false;
+        }
+    }
+    docs.len() == count
+}
+
+// The refusal, if there is one.
+fn fault(docs: Result<Vec<Document>, TreeFault>) -> Option<TreeFault> {
+    match docs {
+        Ok(_) => None,
+        Err(fault) => Some(fault),
+    }
+}
+
+#[test]
+fn a_slot_is_used_again(rt: HostRuntime) {
+    let mut frames = Frames::new(rt.alloc());
+    let old = handle(0);
+    assert_eq!(rt; page(&mut frames, 1), Ok(old));
+    assert!(rt; have(frames.close(old), &[1]));
+    assert_eq!(rt; page(&mut frames, 2), Ok(again(0)));
+    assert_eq!(rt; frames.top(old), None);
+    assert_eq!(rt; frames.parent(old), None);
+    assert_eq!(rt; frames.page_size(old), None);
+    assert_eq!(rt; frames.next_child(old, None), None);
+    assert_eq!(rt; frames.next_child(again(0), Some(old)), None);
+    assert_eq!(rt; frames.preorder_next(old, old), None);
+    assert_eq!(rt; frames.preorder_next(again(0), old), None);
+    assert_eq!(rt; child(&mut frames, old, 3), Err(TreeFault::Stale));
+    assert_eq!(rt; fault(go(&mut frames, old, 3)), Some(TreeFault::Stale));
+    assert_eq!(rt; fault(frames.close(old)), Some(TreeFault::Stale));
+    assert_eq!(rt; frames.pages(), 1);
+    assert_eq!(rt; frames.made(), 2);
+}
+
+// Three levels: 0 has 1, 2 and 3; 1 has 4 and 5; 2 has 6; 3 has 7.
+fn three_levels(frames: &mut Frames<Document>) -> bool {
+    let made = page(frames, 1) == Ok(handle(0));
+    let one = child(frames, handle(0), 2) == Ok(handle(1));
+    let two = child(frames, handle(0), 3) == Ok(handle(2));
+    let three = child(frames, handle(0), 4) == Ok(handle(3));
+    let four = child(frames, handle(1), 5) == Ok(handle(4));
+    let five = child(frames, handle(1), 6) == Ok(handle(5));
+    let six = child(frames, handle(2), 7) == Ok(handle(6));
+    let seven = child(frames, handle(3), 8) == Ok(handle(7));
+    made && one && two && three && four && five && six && seven
+}
+
+// Whether the walk below the root gives these slots, and then no more.
+fn walks(frames: &Frames<Document>, root: Handle, slots: &[u32]) -> bool {
+    let mut at = root;
+    for slot in slots {
+        match frames.preorder_next(root, at) {
+            Some(next) if next.slot == *slot => at = next,
+            _ => return false,
+        }
+    }
+    frames.preorder_next(root, at).is_none()
+}
+
+#[test]
+fn siblings_after_a_middle_child_was_closed(rt: HostRuntime) {
+    let mut frames = Frames::new(rt.alloc());
+    let top = handle(0);
+    assert!(rt; three_levels(&mut frames));
+    assert!(rt; walks(&frames, top, &[1, 4, 5, 2, 6, 3, 7]));
+    assert!(rt; walks(&frames, handle(1), &[4, 5]));
+    assert_eq!(rt; frames.preorder_next(handle(1), handle(2)), None);
+    assert_eq!(rt; frames.preorder_next(handle(1), top), None);
+    assert!(rt; have(frames.close(handle(2)), &[3, 7]));
+    assert_eq!(rt; frames.page_size(top), Some(6));
+    assert_eq!(rt; frames.next_child(top, None), Some(handle(1)));
+    assert_eq!(rt; frames.next_child(top, Some(handle(1))), Some(handle(3)));
+    assert_eq!(rt; frames.next_child(top, Some(handle(2))), None);
+    assert_eq!(rt; frames.next_child(top, Some(handle(3))), None);
+    assert_eq!(rt; frames.next_child(top, Some(handle(4))), None);
+    assert!(rt; walks(&frames, top, &[1, 4, 5, 3, 7]));
+    assert!(rt; have(frames.close(handle(3)), &[4, 8]));
+    assert!(rt; have(frames.close(handle(4)), &[5]));
+    assert!(rt; walks(&frames, top, &[1, 5]));
+    assert_eq!(rt; frames.pages(), 1);
+}
+
+#[test]
+fn navigation_removes_what_is_below(rt: HostRuntime) {
+    let mut frames = Frames::new(rt.alloc());
+    let top = handle(0);
+    assert!(rt; three_levels(&mut frames));
+    assert!(rt; have(go(&mut frames, handle(1), 9), &[2, 5, 6]));
+    assert!(rt; walks(&frames, top, &[1, 2, 6, 3, 7]));
+    assert_eq!(rt; frames.page_size(top), Some(6));
+    assert_eq!(rt; frames.top(handle(4)), None);
+    assert!(rt; have(go(&mut frames, handle(1), 10), &[9]));
+    assert!(rt; have(go(&mut frames, top, 11), &[1, 10, 3, 7, 4, 8]));
+    assert!(rt; walks(&frames, top, &[]));
+    assert_eq!(rt; frames.page_size(top), Some(1));
+    assert_eq!(rt; frames.pages(), 1);
+    assert_eq!(rt; frames.made(), 8);
 }

@@ -1,10 +1,11 @@
 //! The walk over the tree.
 ghost use Rattle.std.specs.Prelude.{◌≡◌, ◌↔◌, ◌∷◌, Some, None, IsSome, IsSomeAnd, IsTrue, IfSome, IfOk, unwrap_or, false};
 ghost use Rattle.pe_frames.specs.Forest.{entry_of, is_under, last_of};
-ghost use Rattle.pe_frames.specs.Order.{after, next_child_of, handles_under};
+ghost use Rattle.pe_frames.specs.Order.{after, child_handles, next_child_of, handles_under};
 
 use crate::frames::Frames;
 use crate::node::Numbered;
+use crate::row::names;
 use pe_arena::Handle;
 use std::alloc::AllocError;
 
@@ -16,11 +17,21 @@ impl<D: Numbered> Frames<D> {
         ensures value { result ≡ next_child_of self.now.entries parent after }
         ensures stale { entry_of self.now.entries parent ≡ None → result ≡ None }
     {
-        let Some(child) = after else {
-            return self.standing(parent)?.links.first;
-        };
+        let _ = &self.order;
+        let here = self.standing(parent)?;
+        match after {
+            None => here.links.first,
+            Some(child) => self.child_behind(parent, child),
+        }
+    }
+
+    // The child of the parent behind this one.
+    fn child_behind(&self, parent: Handle, child: Handle) -> Option<Handle>
+        ensures { result ≡ after child (child_handles self.now.entries parent) }
+    {
+        let _ = &self.order;
         let here = self.standing(child)?;
-        if here.parent != Some(parent) {
+        if !names(here.parent, parent) {
             return None;
         }
         here.links.later
@@ -33,6 +44,7 @@ impl<D: Numbered> Frames<D> {
         ensures stale { entry_of self.now.entries at ≡ None → result ≡ None }
         ensures outside { IfSome (entry_of self.now.entries at) (λ e. is_under root e ≡ false → result ≡ None) }
     {
+        let _ = &self.order;
         if !self.is_within(root, at) {
             return None;
         }
@@ -43,6 +55,7 @@ impl<D: Numbered> Frames<D> {
     fn is_within(&self, root: Handle, at: Handle) -> bool
         ensures { IsTrue result ↔ IsSomeAnd (entry_of self.now.entries at) (λ e. IsTrue (is_under root e)) }
     {
+        let _ = &self.order;
         let Some(top) = self.top(at) else {
             return false;
         };
@@ -57,6 +70,7 @@ impl<D: Numbered> Frames<D> {
         requires { IsSome (entry_of self.now.entries at) }
         ensures { IsTrue result ↔ IsSomeAnd (entry_of self.now.entries at) (λ e. IsTrue (is_under root e)) }
     {
+        let _ = &self.order;
         let mut up = at;
         while up != root {
             let Some(parent) = self.parent(up) else {
@@ -72,6 +86,7 @@ impl<D: Numbered> Frames<D> {
         requires { IsSomeAnd (entry_of self.now.entries at) (λ e. IsTrue (is_under root e)) }
         ensures { result ≡ after at (handles_under self.now.entries root) }
     {
+        let _ = &self.order;
         let first = self.standing(at)?.links.first;
         if first.is_some() {
             return first;
@@ -85,6 +100,7 @@ impl<D: Numbered> Frames<D> {
         requires { IsSomeAnd (entry_of self.now.entries at) (λ e. IsTrue (is_under root e)) }
         ensures { result ≡ after (unwrap_or (last_of (handles_under self.now.entries at)) at) (handles_under self.now.entries root) }
     {
+        let _ = &self.order;
         let mut up = at;
         while up != root {
             let here = self.standing(up)?;

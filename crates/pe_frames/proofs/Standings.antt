@@ -1,0 +1,57 @@
+-- Where a live frame stands.
+use Rattle.std.proofs.Common.{◌≡◌, ◌⊎◌, inl, inr, ℕ, Bool, true, false, cond, List, [], ◌∷◌, Option, None, Some, IsSome, is_some, refl, sym, ap, subst, ◌∙◌, true≢false}
+use Rattle.std.specs.Option.{option_map}
+use Rattle.pe_arena.specs.declared.handle.Handle.{Handle}
+use Rattle.pe_arena.specs.Slots.{Slots, live}
+use Rattle.pe_frames.specs.declared.row.Row.{Row}
+use Rattle.pe_frames.specs.declared.row.Standing.{Standing}
+use Rattle.pe_frames.specs.declared.node.Node.{Node}
+use Rattle.pe_frames.specs.Forest.{Entry, entry_of, node_in, node_of}
+use Rattle.pe_frames.specs.Links.{links_in}
+use Rattle.pe_frames.specs.Kept.{kept, shown, entries_in, standing_in, HasLinks, IsForest}
+use Rattle.pe_frames.proofs.Nodes.{found-live}
+
+module _ {D : Type 0} where
+  -- where the frame of a row stands
+  abbrev pub standing_row : Row D → Standing
+  standing_row r = record { parent = r.node.parent; top = r.node.top; depth = r.node.depth; links = r.links }
+
+  by_node : (es : List (Entry D)) (h : Handle) (o : Option (Row D)) (e : Option (Entry D)) → ((r : Row D) → o ≡ Some r → HasLinks es h r) → option_map (λ r. r.node) o ≡ option_map node_in e → option_map standing_row o ≡ option_map (standing_in es h) e
+  by_node es h None None links q = refl
+  by_node es h None (Some e) links q = absurd (true≢false (sym (ap is_some q)))
+  by_node es h (Some r) None links q = absurd (true≢false (ap is_some q))
+  by_node es h (Some r) (Some e) links q =
+      let same : r.node ≡ node_in e = some_same q in
+      ap (λ l. Some (record { parent = r.node.parent; top = r.node.top; depth = r.node.depth; links = l })) (links r refl)
+      ∙ ap (λ (n : Node D). Some (record { parent = n.parent; top = n.top; depth = n.depth; links = links_in es h n.parent })) same
+    where
+      some_same : {A : Type 0} {a b : A} → Some a ≡ Some b → a ≡ b
+      some_same q = cc
+
+  -- where a live frame stands, by its row
+  pub standing-live : (s : Slots (Row D)) (order : List Handle) (pages : ℕ) → IsForest s order pages → (h : Handle) → option_map standing_row (live s h) ≡ option_map (standing_in (entries_in (kept s order [])) h) (entry_of (entries_in (kept s order [])) h)
+  standing-live s order pages is h = by_node (entries_in (kept s order [])) h (live s h) (entry_of (entries_in (kept s order [])) h) (λ r e. is.linked h r e) (found-live s order h is.listed is.nodes)
+
+  -- nothing stands at a handle of no frame
+  pub no-entry : (es : List (Entry D)) (h : Handle) (o : Option Standing) → o ≡ None → o ≡ option_map (standing_in es h) (entry_of es h) → entry_of es h ≡ None
+  no-entry es h o e q = none (entry_of es h) (sym q ∙ e)
+    where
+      none : (x : Option (Entry D)) → option_map (standing_in es h) x ≡ None → x ≡ None
+      none None f = refl
+      none (Some x) f = absurd (true≢false (ap is_some f))
+
+  -- the frame that stands at the handle
+  pub record StandsAt (es : List (Entry D)) (h : Handle) (here : Standing) : Type 0 where
+    pub entry : Entry D
+    pub found : entry_of es h ≡ Some entry
+    pub is : here ≡ standing_in es h entry
+
+  pub stands-at : (es : List (Entry D)) (h : Handle) (o : Option Standing) (here : Standing) → o ≡ Some here → o ≡ option_map (standing_in es h) (entry_of es h) → StandsAt es h here
+  stands-at es h o here e q = by_entry (entry_of es h) refl (sym e ∙ q)
+    where
+      some_same : {A : Type 0} {a b : A} → Some a ≡ Some b → a ≡ b
+      some_same f = cc
+
+      by_entry : (x : Option (Entry D)) → entry_of es h ≡ x → Some here ≡ option_map (standing_in es h) x → StandsAt es h here
+      by_entry None f q = absurd (true≢false (ap is_some q))
+      by_entry (Some x) f q = record { entry = x; found = f; is = some_same q }

@@ -1,0 +1,175 @@
+-- The frames within a subtree: the root and those below it.
+use Rattle.std.proofs.Common.{◌≡◌, ◌⊎◌, inl, inr, ℕ, ◌+◌, Bool, true, false, cond, ◌||◌, ◌&&◌, List, [], ◌∷◌, ◌++◌, length, length-append, Option, None, Some, is_some, refl, sym, ap, subst, ◌∙◌, arith, true≢false}
+use Rattle.std.specs.Prelude.{filter, not}
+use Rattle.pe_base.specs.declared.limits.TheConstants.{DEPTH_LIMIT}
+use Rattle.pe_arena.specs.declared.handle.Handle.{Handle}
+use Rattle.pe_frames.specs.Forest.{Entry, path, same_handle, has_handle, first_of, entry_of, is_under, parent_of, top_of}
+use Rattle.pe_frames.specs.Order.{is_named, is_child, handles_under}
+use Rattle.pe_frames.specs.Links.{young}
+use Rattle.pe_frames.specs.Kept.{Kept, entries_in, AreNodes, AreApart}
+use Rattle.pe_frames.proofs.Nodes.{has-push, same_handle-Decides, same_or_other}
+use Rattle.pe_frames.proofs.Pages.{not_same}
+use Rattle.pe_frames.proofs.Below.{entry-handle}
+use Rattle.pe_frames.proofs.Upward.{above-none, under-parent, under-top, under-itself}
+use Rattle.pe_frames.proofs.Tree.{Each, IsTree, IsParent}
+use Rattle.pe_frames.proofs.TreeOrder.{walk-under}
+use Rattle.pe_frames.proofs.Under.{handles-live, handles-all, handles-are, its-own}
+use Rattle.pe_frames.proofs.Cuts.{each-live, filter-agree}
+use Rattle.pe_frames.proofs.Without.{without}
+
+some_same : {A : Type 0} {a b : A} → Some a ≡ Some b → a ≡ b
+some_same e = cc
+
+pub true_or_false : (b : Bool) → (b ≡ true) ⊎ (b ≡ false)
+true_or_false true = inl refl
+true_or_false false = inr refl
+
+filter-all : {A : Type 0} (p : A → Bool) (xs : List A) → Each (λ x. p x ≡ true) xs → filter p xs ≡ xs
+filter-all p [] each = refl
+filter-all p (x ∷ xs) each = ap (λ b. cond b (x ∷ filter p xs) (filter p xs)) each.0 ∙ ap (λ ys. x ∷ ys) (filter-all p xs each.1)
+
+filter-none : {A : Type 0} (p : A → Bool) (xs : List A) → Each (λ x. p x ≡ false) xs → filter p xs ≡ []
+filter-none p [] each = refl
+filter-none p (x ∷ xs) each = ap (λ b. cond b (x ∷ filter p xs) (filter p xs)) each.0 ∙ filter-none p xs each.1
+
+first-path : (ks : List Handle) (k : Handle) (rest : List Handle) (d : Handle) → first_of ((ks ++ k ∷ []) ++ rest) d ≡ first_of ks k
+first-path [] k rest d = refl
+first-path (x ∷ ks) k rest d = refl
+
+first-path_alone : (ks : List Handle) (k d : Handle) → first_of (ks ++ k ∷ []) d ≡ first_of ks k
+first-path_alone [] k d = refl
+first-path_alone (x ∷ ks) k d = refl
+
+turned : (a b : Handle) → same_handle a b ≡ false → same_handle b a ≡ false
+turned a b e = not_same (same_handle b a) (λ t. true≢false (sym ((same_handle-Decides a b).1 (sym ((same_handle-Decides b a).0 t))) ∙ e))
+
+module _ {D : Type 0} where
+  -- the children that stay are those of what stays
+  pub young-stays : (gone : Handle → Bool) (stays : Entry D → Bool) (es : List (Entry D)) → Each (λ x. stays x ≡ not (gone x.handle)) es → (q : Handle) → young (filter stays es) q ≡ filter (λ k. not (gone k)) (young es q)
+  young-stays gone stays [] each q = refl
+  young-stays gone stays (x ∷ es) each q = ap (λ b. young (cond b (x ∷ filter stays es) (filter stays es)) q) each.0 ∙ by_test (not (gone x.handle)) (is_child q x) refl refl (young-stays gone stays es each.1 q)
+    where
+      by_test : (a b : Bool) → not (gone x.handle) ≡ a → is_child q x ≡ b → young (filter stays es) q ≡ filter (λ k. not (gone k)) (young es q)
+          → young (cond a (x ∷ filter stays es) (filter stays es)) q ≡ filter (λ k. not (gone k)) (cond b (x.handle ∷ young es q) (young es q))
+      by_test true true g c rest =
+          ap (λ t. cond t (x.handle ∷ young (filter stays es) q) (young (filter stays es) q)) c
+          ∙ ap (λ ks. x.handle ∷ ks) rest
+          ∙ sym (ap (λ t. cond t (x.handle ∷ filter (λ k. not (gone k)) (young es q)) (filter (λ k. not (gone k)) (young es q))) g)
+      by_test true false g c rest = ap (λ t. cond t (x.handle ∷ young (filter stays es) q) (young (filter stays es) q)) c ∙ rest
+      by_test false true g c rest = rest ∙ sym (ap (λ t. cond t (x.handle ∷ filter (λ k. not (gone k)) (young es q)) (filter (λ k. not (gone k)) (young es q))) g)
+      by_test false false g c rest = rest
+
+  -- what is so of each frame with this parent is so of each child
+  pub young-each : (P : Handle → Type 0) (es : List (Entry D)) (q : Handle) → Each (λ x. is_child q x ≡ true → P x.handle) es → Each P (young es q)
+  young-each P [] q each = tt
+  young-each P (x ∷ es) q each = by_test (is_child q x) each.0 (young-each P es q each.1)
+    where
+      by_test : (b : Bool) → (b ≡ true → P x.handle) → Each P (young es q) → Each P (cond b (x.handle ∷ young es q) (young es q))
+      by_test true f rest = (f refl, rest)
+      by_test false f rest = rest
+
+  module _ (es : List (Entry D)) (tree : IsTree es DEPTH_LIMIT) (h : Handle) (e : Entry D) (found : entry_of es h ≡ Some e) where
+    pub embedder-of : (k : Handle) (x : Entry D) (p : Handle) → entry_of es k ≡ Some x → parent_of x ≡ Some p → IsParent es p x
+    embedder-of k x p f q = tree.parent p x (record { found = its-own es k x f; parent = q })
+
+    -- the handle of a live frame goes with the subtree where the frame is within it
+    pub goes-under : (k : Handle) (x : Entry D) → entry_of es k ≡ Some x → has_handle k (handles_under es h) ≡ is_under h x
+    goes-under k x f = elim (true_or_false (is_under h x)) as (λ _. has_handle k (handles_under es h) ≡ is_under h x) [
+      | inl t ↦ handles-all es tree h k e x found f t ∙ sym t
+      | inr u ↦ not_same (has_handle k (handles_under es h)) (λ t.
+          let l = handles-live es tree h k t in
+          let same : l.entry ≡ x = some_same (sym l.found ∙ f) in
+          true≢false (sym l.under ∙ ap (is_under h) same ∙ u)) ∙ sym u
+    ]
+
+    -- the way to such a frame leads by the root
+    record ByRoot (x : Entry D) : Type 0 where
+      rest : List Handle
+      is : path x ≡ path e ++ rest
+
+    by-root : (k : Handle) (x : Entry D) → entry_of es k ≡ Some x → has_handle k (handles_under es h) ≡ true → ByRoot x
+    by-root k x f t =
+        let u = walk-under es DEPTH_LIMIT tree DEPTH_LIMIT e (its-own es h e found) k (ap (has_handle k) (sym (handles-are es h e found)) ∙ t) in
+        let same : u.entry ≡ x = some_same (sym u.found ∙ f) in
+        record { rest = u.rest; is = ap path (sym same) ∙ u.is }
+
+    -- the root goes
+    pub root-goes : has_handle h (handles_under es h) ≡ true
+    root-goes = goes-under h e found ∙ ap (λ k. is_under k e) (sym (entry-handle es h e found)) ∙ under-itself e
+
+    -- the frame that embeds it stays
+    pub parent-stays : (p : Handle) → parent_of e ≡ Some p → has_handle p (handles_under es h) ≡ false
+    parent-stays p q = not_same (has_handle p (handles_under es h)) (λ t.
+        let a = embedder-of h e p found q in
+        let way = by-root p a.entry a.found t in
+        let long = ap length a.above in
+        let more = ap length way.is ∙ length-append (path e) way.rest in
+        let own = length-append e.above (e.handle ∷ []) in
+        absurd (omega (arith, long, more, own)))
+
+    -- each other frame goes where the frame that embeds it goes
+    pub child-goes : (k : Handle) (x : Entry D) (p : Handle) → entry_of es k ≡ Some x → parent_of x ≡ Some p → same_handle k h ≡ false → has_handle k (handles_under es h) ≡ has_handle p (handles_under es h)
+    child-goes k x p f q other =
+        let a = embedder-of k x p f q in
+        goes-under k x f
+        ∙ under-parent h x a.entry a.above (ap (λ j. same_handle j h) (entry-handle es k x f) ∙ other)
+        ∙ sym (goes-under p a.entry a.found)
+
+    -- the children of the root go
+    pub child-of-root : (k : Handle) (x : Entry D) → entry_of es k ≡ Some x → parent_of x ≡ Some h → has_handle k (handles_under es h) ≡ true
+    child-of-root k x f q = elim (same_or_other k h) as (λ _. has_handle k (handles_under es h) ≡ true) [
+      | inl t ↦ ap (λ j. has_handle j (handles_under es h)) ((same_handle-Decides k h).0 t) ∙ root-goes
+      | inr u ↦ child-goes k x h f q u ∙ root-goes
+    ]
+
+    -- and are not the root
+    pub child-not-root : (k : Handle) (x : Entry D) → entry_of es k ≡ Some x → parent_of x ≡ Some h → same_handle k h ≡ false
+    child-not-root k x f q = not_same (same_handle k h) (λ t.
+        let kh = (same_handle-Decides k h).0 t in
+        let same : x ≡ e = some_same (sym f ∙ ap (entry_of es) kh ∙ found) in
+        true≢false (sym root-goes ∙ parent-stays h (ap (λ (y : Entry D). parent_of y) (sym same) ∙ q)))
+
+    -- a top frame goes where it is the root
+    pub top-goes : (k : Handle) (x : Entry D) → entry_of es k ≡ Some x → parent_of x ≡ None → has_handle k (handles_under es h) ≡ same_handle k h
+    top-goes k x f q = goes-under k x f ∙ under-top h x (above-none x q) ∙ ap (λ j. same_handle j h) (entry-handle es k x f)
+
+    -- what goes is of one page
+    pub page-goes : (k : Handle) (x : Entry D) → entry_of es k ≡ Some x → has_handle k (handles_under es h) ≡ true → top_of x ≡ top_of e
+    page-goes k x f t =
+        let way = by-root k x f t in
+        sym (first-path_alone x.above x.handle h) ∙ ap (λ ks. first_of ks h) way.is ∙ first-path e.above e.handle way.rest h
+
+    module _ (xs : List (Kept D)) (are : AreNodes xs) (apart : AreApart xs) (kept_as : es ≡ entries_in xs) where
+      each-child : (P : Handle → Type 0) (q : Handle) → ((x : Entry D) → entry_of es x.handle ≡ Some x → parent_of x ≡ Some q → P x.handle) → Each P (young es q)
+      each-child P q all = young-each P es q
+          (subst (Each (λ x. is_child q x ≡ true → P x.handle)) (sym kept_as)
+          (each-live (λ x. is_child q x ≡ true → P x.handle) xs are apart (λ x f c. all x (subst (λ fs. entry_of fs x.handle ≡ Some x) (sym kept_as) f) (named (parent_of x) q c))))
+        where
+          named : (o : Option Handle) (p : Handle) → is_named o p ≡ true → o ≡ Some p
+          named None p c = absurd (true≢false (sym c))
+          named (Some k) p c = ap Some ((same_handle-Decides k p).0 c)
+
+      -- of the children of a frame that stays, the root alone goes
+      pub children-less : (q : Handle) → has_handle q (handles_under es h) ≡ false → filter (λ k. not (has_handle k (handles_under es h))) (young es q) ≡ without h (young es q)
+      children-less q g = filter-agree (λ k. not (has_handle k (handles_under es h))) (λ k. not (same_handle k h)) (young es q)
+          (each-child (λ k. not (has_handle k (handles_under es h)) ≡ not (same_handle k h)) q (λ x f par. elim (same_or_other x.handle h) as (λ _. not (has_handle x.handle (handles_under es h)) ≡ not (same_handle x.handle h)) [
+            | inl t ↦ ap not (ap (λ j. has_handle j (handles_under es h)) ((same_handle-Decides x.handle h).0 t) ∙ root-goes ∙ sym t)
+            | inr u ↦ ap not (child-goes x.handle x q f par u ∙ g ∙ sym u)
+          ]))
+
+      module _ (below : List Handle) (is : h ∷ below ≡ handles_under es h) (once : has_handle h below ≡ false) where
+        goes-below : (k : Handle) → same_handle h k ≡ false → has_handle k below ≡ has_handle k (handles_under es h)
+        goes-below k u = sym (ap (λ b. b || has_handle k below) u) ∙ ap (has_handle k) is
+
+        -- of the children of another frame that stays, none is below the root
+        pub children-same : (q : Handle) → same_handle h q ≡ false → has_handle q below ≡ false → filter (λ k. not (has_handle k below)) (young es q) ≡ young es q
+        children-same q other g = filter-all (λ k. not (has_handle k below)) (young es q)
+            (each-child (λ k. not (has_handle k below) ≡ true) q (λ x f par. ap not (elim (same_or_other x.handle h) as (λ _. has_handle x.handle below ≡ false) [
+              | inl t ↦ ap (λ j. has_handle j below) ((same_handle-Decides x.handle h).0 t) ∙ once
+              | inr u ↦ goes-below x.handle (turned x.handle h u) ∙ child-goes x.handle x q f par u ∙ sym (goes-below q other) ∙ g
+            ])))
+
+        -- and all children of the root are
+        pub children-none : filter (λ k. not (has_handle k below)) (young es h) ≡ []
+        children-none = filter-none (λ k. not (has_handle k below)) (young es h)
+            (each-child (λ k. not (has_handle k below) ≡ false) h (λ x f par. ap not (goes-below x.handle (turned x.handle h (child-not-root x.handle x f par)) ∙ child-of-root x.handle x f par)))
