@@ -5,19 +5,22 @@
 //! - `cutter BYTES LENGTH PIECE`: cuts so many bytes, in lines of this length, fed in pieces of this size.
 //! - `change COUNT`: removes so many values of an arena of 16,384 at random places, and takes another in for each.
 //! - `find COUNT`: looks so many values of such an arena up, at random places.
+//! - `close PAGES SIZE`: opens and closes so many pages of so many frames, one after another.
+//! - `leaf LIVE COUNT`: embeds and closes one frame so many times, where so many frames are live with it.
 #![tactic(auto)]
 
 mod arena;
 mod cutter;
 mod fields;
+mod frames;
 
 use std::alloc::{AllocError, Global};
 use std::process::ExitCode;
 use std::{env, io};
 
 /// What is written where the arguments are of no form.
-const USAGE: &str =
-    "usage: pe_bench fields COUNT | cutter BYTES LENGTH PIECE | change COUNT | find COUNT";
+const USAGE: &str = "usage: pe_bench fields COUNT | cutter BYTES LENGTH PIECE | change COUNT \
+| find COUNT | close PAGES SIZE | leaf LIVE COUNT";
 
 /// What is to be measured.
 enum Work {
@@ -34,6 +37,14 @@ enum Work {
     },
     Find {
         count: u64,
+    },
+    Close {
+        pages: u32,
+        size: u32,
+    },
+    Leaf {
+        live: u32,
+        count: u32,
     },
 }
 
@@ -57,10 +68,28 @@ fn counted_work(name: &str, count: &str) -> Option<Work> {
     None
 }
 
+/// The work of this name that takes two numbers.
+fn frames_work(name: &str, first: &str, second: &str) -> Option<Work> {
+    if name == "close" {
+        return Some(Work::Close {
+            pages: first.parse().ok()?,
+            size: second.parse().ok()?,
+        });
+    }
+    if name == "leaf" {
+        return Some(Work::Leaf {
+            live: first.parse().ok()?,
+            count: second.parse().ok()?,
+        });
+    }
+    None
+}
+
 /// The work that the arguments name.
 fn work_of(words: &[String]) -> Option<Work> {
     match words {
         [name, count] => counted_work(name.as_str(), count.as_str()),
+        [name, first, second] => frames_work(name.as_str(), first.as_str(), second.as_str()),
         [name, bytes, length, piece] if name.as_str() == "cutter" => Some(Work::Cutter {
             bytes: bytes.as_str().parse().ok()?,
             length: length.as_str().parse().ok()?,
@@ -101,6 +130,14 @@ fn done(alloc: Global, work: Work) -> Result<String, AllocError> {
         Work::Find { count } => {
             let found = arena::values_found(alloc, count)?;
             format!(in alloc; "{found} values found")
+        }
+        Work::Close { pages, size } => {
+            let documents = frames::documents_closed(alloc, pages, size)?;
+            format!(in alloc; "{pages} pages, {documents} documents given back")
+        }
+        Work::Leaf { live, count } => {
+            let changed = frames::leaves_changed(alloc, live, count)?;
+            format!(in alloc; "{live} live frames, {changed} embedded and closed")
         }
     }
 }
