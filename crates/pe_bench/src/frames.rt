@@ -34,9 +34,7 @@ fn page(frames: &mut Frames<Document>) -> Option<Handle> {
     if frames.made() >= u64::from(u32::MAX) {
         return None;
     }
-    frames
-        .open_page(FrameNo::of(NUMBER), Document::new())
-        .ok()
+    frames.open_page(FrameNo::of(NUMBER), Document::new()).ok()
 }
 
 /// Embeds a frame in the parent. None where there is no room for it.
