@@ -1,9 +1,11 @@
 //! What no contract says: that there is memory for frames, and that the tree serves a document at run time.
-ghost use Rattle.std.specs.Prelude.{◌≤◌};
+ghost use Rattle.std.specs.Prelude.{◌≡◌, ◌<◌, ◌≤◌};
 
 use crate::{Frames, Numbered, TreeFault};
-use pe_arena::Handle;
-use pe_base::{DocNo, FrameNo};
+use pe_arena::{DocRef, Handle};
+use pe_base::{DocNo, FrameNo, Steps};
+use std::marker::Brand;
+use std::sync::ledger::{Blank, Ledger};
 
 #[derive(Drop)]
 struct Document {
@@ -167,6 +169,40 @@ fn fault(docs: Result<Vec<Document>, TreeFault>) -> Option<TreeFault> {
         Ok(_) => None,
         Err(fault) => Some(fault),
     }
+}
+
+// How many of the three counted calls reach the frame of the handle, or its document of this number.
+fn reached<L: Ledger>(frames: &mut Frames<Document>, h: Handle, doc: DocNo, blank: Blank) -> u32
+    requires name { blank.name ≡ L.name }
+    requires parts { blank.parts ≡ L.parts }
+    requires some { 0 < blank.parts }
+{
+    let mut steps = Steps::<L>::start(blank);
+    let node = frames.node(h, &mut steps).is_some();
+    let shown = frames.doc(DocRef { at: h, doc }, &mut steps).is_some();
+    let written = frames.doc_mut(h, &mut steps).is_some();
+    u32::from(node) + u32::from(shown) + u32::from(written)
+}
+
+#[test]
+fn counted_calls_on_a_slot_that_is_used_again(rt: HostRuntime) {
+    let mut frames = Frames::new(rt.alloc());
+    let one = DocNo::of(1);
+    assert_eq!(rt; page(&mut frames, 1), Ok(handle(0)));
+    assert_eq!(rt;
+        reached::<Brand>(&mut frames, handle(0), one, Blank::new(1)),
+        3
+    );
+    assert!(rt; have(frames.close(handle(0)), &[1]));
+    assert_eq!(rt; page(&mut frames, 2), Ok(again(0)));
+    assert_eq!(rt;
+        reached::<Brand>(&mut frames, handle(0), one, Blank::new(1)),
+        0
+    );
+    assert_eq!(rt;
+        reached::<Brand>(&mut frames, again(0), one, Blank::new(1)),
+        2
+    );
 }
 
 #[test]
