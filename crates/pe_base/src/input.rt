@@ -1,4 +1,5 @@
-//! Kinds of user input.
+//! Kinds of user input, and the stamp that activation leaves.
+use crate::time::Millis;
 
 /// A kind of input, in the order of the script's table. Which kinds are activation triggering
 /// (HTML Standard, "activation triggering input event") is told where activation is.
@@ -28,4 +29,17 @@ pub enum InputKind {
     PointerupTouch,
     /// A touch ended.
     Touchend,
+}
+
+/// When a document was last activated (HTML Standard, "last activation timestamp", and for a second
+/// stamp "last history-action activation timestamp"). What it says of sticky, transient and
+/// history-action activation is told where activation is.
+#[derive(Clone, Copy, Debug, PartialEq, Eq)]
+pub enum Stamp {
+    /// No input activated the document.
+    Never,
+    /// It was activated, and its activation was consumed since.
+    Consumed,
+    /// At this time, and not consumed since.
+    At(Millis),
 }

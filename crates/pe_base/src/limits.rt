@@ -38,3 +38,9 @@ pub const INPUT_LIMIT: u64 = 1_073_741_824;
 
 /// The greatest number that a script may put into the name of a frame, status, prompt or message.
 pub const NAME_LIMIT: u32 = 9_999_999;
+
+/// How many dismissals of a permission in a row are an embargo.
+pub const EMBARGO_DISMISSALS: u32 = 3;
+
+/// How long an embargo denies a permission, in milliseconds: seven days.
+pub const EMBARGO_SPAN: u64 = 604_800_000;

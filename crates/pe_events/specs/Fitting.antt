@@ -56,6 +56,7 @@ is_fitting (event.Attr frame name value) = is_name frame && is_text_or_none valu
 is_fitting (event.Close frame) = is_name frame
 is_fitting (event.Input frame kind) = is_name frame
 is_fitting (event.Ask frame) = is_name frame
+is_fitting (event.History frame) = is_name frame
 is_fitting (event.PolicyOf frame feature) = is_name frame && is_text feature
 is_fitting (event.Features frame) = is_name frame
 is_fitting (event.UseCall frame call) = is_name frame && is_text call

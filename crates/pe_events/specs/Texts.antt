@@ -46,6 +46,7 @@ reason_text reason.PermissionPrompt = codes "permission-prompt"
 reason_text reason.NoSticky = codes "no-sticky"
 reason_text reason.NoTransient = codes "no-transient"
 reason_text reason.TargetAny = codes "target-any"
+reason_text reason.NoHistory = codes "no-history"
 
 -- why a line is refused
 abbrev pub cause_text : Cause → List ℕ

@@ -84,6 +84,10 @@ pub enum Event<'a> {
     Ask {
         frame: u32,
     },
+    /// A frame's document takes a history action, which consumes the page's history-action activation.
+    History {
+        frame: u32,
+    },
     /// It is asked whether a frame's document is allowed to use a feature.
     PolicyOf {
         frame: u32,

@@ -18,6 +18,8 @@ pub enum Reason {
     NoTransient,
     /// A delegating message names no origin.
     TargetAny,
+    /// It has no history-action activation (HTML Standard, "history-action activation").
+    NoHistory,
 }
 
 /// What an allowed use was met by.

@@ -3,3 +3,4 @@ mod CapabilityRows
 mod FeatureRows
 mod GateRows
 mod Search
+pub mod SameFeature

@@ -5,8 +5,10 @@
 mod call;
 mod capability;
 mod feature;
+mod law;
 mod named;
 
 pub use call::{Call, Gate, Need};
 pub use capability::Capability;
 pub use feature::{DefaultList, Feature, KeyKind};
+pub use law::same_features_are_one;

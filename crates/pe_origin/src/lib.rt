@@ -1,11 +1,13 @@
 //! Origins, and what the engine knows of a URL.
 #![tactic(auto)]
 
+mod law;
 mod origin;
 mod place;
 mod scheme;
 mod trust;
 
+pub use law::same_origins_are_one;
 pub use origin::{Origin, Tuple, origin_text, same_origin};
 pub use place::{Place, PlaceFault, PlaceKind, read_place};
 pub use scheme::{HostForm, Scheme};

@@ -6,7 +6,7 @@ mod link;
 mod policy;
 mod row;
 
-pub use law::denial_is_by_value;
+pub use law::denials_are_by_value;
 pub use link::{first_link, own_link};
 pub use policy::Policy;
 pub use row::Links;

@@ -1,10 +1,11 @@
 -- User activation: which documents an input activates, what consumes it, sticky and transient activation.
 -- HTML Standard, "Tracking user activation" ("activation notification", "consume user activation", "sticky activation", "transient activation").
--- The duration is that of the run, in milliseconds; which kinds of input trigger is this project's own table.
-use Rattle.std.specs.Prelude.{ℕ, ◌+◌, Bool, true, false, not, ◌&&◌, ◌||◌, ◌==◌, nat_lt, List, ◌∷◌, length, filter, Option, is_some, unwrap_or, option_map}
+-- The duration is that of the run, in milliseconds.
+use Rattle.std.specs.Prelude.{ℕ, ◌+◌, Bool, true, false, not, ◌&&◌, ◌||◌, ◌==◌, nat_lt, List, ◌∷◌, length, filter, Option, is_some, unwrap_or, option_map, if◌then◌else◌}
 use Rattle.std.specs.List.{list_any}
-use Rattle.pe_base.specs.declared.input.InputKind.{InputKind}
-use Rattle.pe_base.specs.declared.input.InputKind.TheVariants.{Keydown, Mousedown, PointerdownMouse, PointerupPen, PointerupTouch, Touchend}
+use Rattle.pe_base.specs.declared.input.Stamp.{Stamp}
+use Rattle.pe_base.specs.declared.input.Stamp.TheVariants as stamp
+use Rattle.pe_base.specs.Activation.{triggers}
 use Rattle.pe_features.specs.Calls.{call_named, gate_of}
 use Rattle.pe_origin.specs.Origins.{is_same_origin}
 use Rattle.pe_events.specs.declared.event.Event.{Event}
@@ -16,16 +17,6 @@ use Rattle.pe_rules.specs.Numbering.{documents_made, makes_message}
 use Rattle.pe_rules.specs.Embedders.{chain, page, page_of_frame}
 use Rattle.pe_rules.specs.Current.{is_current, document_in}
 use Rattle.pe_rules.specs.Origins.{origin_of}
-
--- an activation triggering input
-abbrev pub triggers : InputKind → Bool
-triggers Keydown = true
-triggers Mousedown = true
-triggers PointerdownMouse = true
-triggers PointerupPen = true
-triggers PointerupTouch = true
-triggers Touchend = true
-triggers kind = false
 
 -- the number is one of the list
 abbrev pub is_one_of : List ℕ → ℕ → Bool
@@ -83,3 +74,8 @@ has_sticky T d = is_some (last_activation T d)
 unfoldable pub has_transient : ℕ → Told → ℕ → ℕ → Bool
 has_transient duration T now d =
     unwrap_or (option_map (λ last. nat_lt now (last.1 + duration) && not (is_consumed_since T last.0 (page T d))) (last_activation T d)) false
+
+-- the stamp of a document: never where no input activated it, consumed where its page's activation was consumed since the last that did, else the time of that one
+unfoldable pub stamp_of : Told → ℕ → Stamp
+stamp_of T d =
+    unwrap_or (option_map (λ last. if is_consumed_since T last.0 (page T d) then stamp.Consumed else stamp.At last.1) (last_activation T d)) stamp.Never

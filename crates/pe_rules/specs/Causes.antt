@@ -1,7 +1,7 @@
 -- Why an event is refused: the causes in order, each by cases on the event.
 -- The causes, their order and the limits are this project's own.
 -- The causes of a line that is no event come before these and are told by the reading of lines.
-use Rattle.std.specs.Prelude.{ℕ, Bool, true, false, not, ◌&&◌, ◌||◌, ◌==◌, nat_lt, List, [], ◌∷◌, length, map, filter, Option, Some, None, is_some, is_none, unwrap_or, option_map, option_and_then, option_to_list}
+use Rattle.std.specs.Prelude.{ℕ, Bool, true, false, not, ◌&&◌, ◌||◌, ◌==◌, nat_le, nat_lt, List, [], ◌∷◌, length, map, filter, Option, Some, None, is_some, is_none, unwrap_or, option_map, option_and_then, option_to_list}
 use Rattle.std.specs.Option.{option_or}
 use Rattle.std.specs.List.{list_any}
 use Rattle.pe_base.specs.declared.limits.TheConstants.{EVENT_LIMIT, PAGE_LIMIT, DEPTH_LIMIT, FRAME_LIMIT, STATUS_LIMIT, PENDING_LIMIT, MESSAGE_LIMIT, STORE_LIMIT}
@@ -22,7 +22,8 @@ use Rattle.pe_rules.specs.History.{Told, when, newest, each, clock}
 use Rattle.pe_rules.specs.Numbering.{is_frame, is_status, is_prompt, is_message, frames_made, parent_frame}
 use Rattle.pe_rules.specs.Embedders.{page, page_of_frame, depth}
 use Rattle.pe_rules.specs.Current.{document_in, is_live}
-use Rattle.pe_rules.specs.Settings.{Pair, is_same_pair, pair_for, prompt_page, setting_by, has_entry, word_origin}
+use Rattle.pe_store.specs.Pairs.{Pair, is_same_pair}
+use Rattle.pe_rules.specs.Settings.{pair_for, prompt_page, setting_by, has_entry, word_origin}
 use Rattle.pe_rules.specs.PermissionState.{permission_state}
 use Rattle.pe_rules.specs.Prompts.{is_settled, waiting, shown, pending, joined}
 use Rattle.pe_rules.specs.Delegation.{is_message_settled, waiting_messages}
@@ -38,6 +39,7 @@ frames_named (event.Attr frame name value) = frame ∷ []
 frames_named (event.Close frame) = frame ∷ []
 frames_named (event.Input frame kind) = frame ∷ []
 frames_named (event.Ask frame) = frame ∷ []
+frames_named (event.History frame) = frame ∷ []
 frames_named (event.PolicyOf frame feature) = frame ∷ []
 frames_named (event.Features frame) = frame ∷ []
 frames_named (event.UseCall frame call) = frame ∷ []
@@ -180,28 +182,28 @@ is_prompt_state other = false
 
 -- a page is opened beside as many as there may be
 unfoldable pub exceeds_pages : Told → Event → Bool
-exceeds_pages T (event.OpenPage url header) = length (live_pages T) == PAGE_LIMIT
+exceeds_pages T (event.OpenPage url header) = nat_le PAGE_LIMIT (length (live_pages T))
 exceeds_pages T e = false
 
 -- a frame is embedded in one of the greatest depth
 unfoldable pub exceeds_depth : Told → Event → Bool
-exceeds_depth T (event.Embed parent src place allow sandbox fullscreen srcdoc header) = depth T parent == DEPTH_LIMIT
+exceeds_depth T (event.Embed parent src place allow sandbox fullscreen srcdoc header) = nat_le DEPTH_LIMIT (depth T parent)
 exceeds_depth T e = false
 
 -- a frame is embedded in a page of as many as there may be
 unfoldable pub exceeds_frames : Told → Event → Bool
-exceeds_frames T (event.Embed parent src place allow sandbox fullscreen srcdoc header) = count_in_page T parent (live_frames T) == FRAME_LIMIT
+exceeds_frames T (event.Embed parent src place allow sandbox fullscreen srcdoc header) = nat_le FRAME_LIMIT (count_in_page T parent (live_frames T))
 exceeds_frames T e = false
 
 -- a status is made in a page of as many live ones as there may be
 unfoldable pub exceeds_statuses : Told → Event → Bool
-exceeds_statuses T (event.Query frame feature) = count_in_page T frame (page_statuses T) == STATUS_LIMIT
+exceeds_statuses T (event.Query frame feature) = nat_le STATUS_LIMIT (count_in_page T frame (page_statuses T))
 exceeds_statuses T e = false
 
 -- a request would make a prompt in a page of as many pending ones as there may be, or a message is posted in one of as many waiting
 unfoldable pub exceeds_pending : Told → ℕ → Event → Bool
-exceeds_pending T now (event.Request frame feature) = is_prompt_state (found T now frame feature) && is_none (joining T frame feature) && count_in_page T frame (pending T) == PENDING_LIMIT
-exceeds_pending T now (event.Post sender target named capability) = count_in_page T sender (waiting_messages T) == MESSAGE_LIMIT
+exceeds_pending T now (event.Request frame feature) = is_prompt_state (found T now frame feature) && is_none (joining T frame feature) && nat_le PENDING_LIMIT (count_in_page T frame (pending T))
+exceeds_pending T now (event.Post sender target named capability) = nat_le MESSAGE_LIMIT (count_in_page T sender (waiting_messages T))
 exceeds_pending T now e = false
 
 -- the pair was set again after position k
@@ -212,9 +214,9 @@ is_set_since T k pair = is_some (newest (λ s B. option_and_then (λ x. when (is
 unfoldable pub entries : Told → List Pair
 entries T = each (λ s B. option_to_list (option_and_then (λ x. when (has_entry T x.pair && not (is_set_since T (length (s ∷ B)) x.pair)) x.pair) (setting_by s.time s.event B))) T
 
--- a setting would make an entry in a store of as many as there may be
+-- a setting, also that of an embargo, would make an entry in a store of as many as there may be
 unfoldable pub exceeds_store : Told → ℕ → Event → Bool
-exceeds_store T now e = unwrap_or (option_map (λ x. not (has_entry T x.pair) && length (entries T) == STORE_LIMIT) (setting_by now e T)) false
+exceeds_store T now e = unwrap_or (option_map (λ x. not (has_entry T x.pair) && nat_le STORE_LIMIT (length (entries T))) (setting_by now e T)) false
 
 -- ---- the first cause
 
@@ -226,7 +228,7 @@ first_some ask (x ∷ xs) = let later = first_some ask xs in option_or (ask x) l
 -- the first cause that applies to the event at this time
 unfoldable pub cause_of : Told → ℕ → Event → Option Cause
 cause_of T now e = first_some (λ (x : Cause × Bool). when x.1 x.0) (
-    (cause.LimitEvents, length T == EVENT_LIMIT)
+    (cause.LimitEvents, nat_le EVENT_LIMIT (length T))
     ∷ (cause.TimeBack, nat_lt now (clock T))
     ∷ (cause.Unknown, names_unknown T e)
     ∷ (cause.Settled, names_settled T e)

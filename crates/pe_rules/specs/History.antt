@@ -1,7 +1,7 @@
 -- The history: the accepted events, newest first, each beside what was told of it.
 -- It is this project's own: the one thing from which everything else is worked out.
 -- The event at position k stands on k - 1 others, so the history before it is a tail of the list.
-use Rattle.std.specs.Prelude.{ℕ, Bool, true, false, ◌==◌, nat_le, List, [], ◌∷◌, ◌++◌, length, Option, Some, None, if◌then◌else◌}
+use Rattle.std.specs.Prelude.{ℕ, Bool, true, false, ◌==◌, nat_le, List, [], ◌∷◌, ◌++◌, length, Option, Some, None, option_to_list, if◌then◌else◌}
 use Rattle.std.specs.Option.{option_or}
 use Rattle.pe_events.specs.declared.answer.Answer.{Answer}
 use Rattle.pe_events.specs.declared.event.Event.{Event}
@@ -46,6 +46,11 @@ newest ask (s ∷ T) = let earlier = newest ask T in let here = ask s T in optio
 unfoldable pub each : {A : Type 0} → (Step → Told → List A) → Told → List A
 each ask [] = []
 each ask (s ∷ T) = each ask T ++ ask s T
+
+-- the answers of a question that is put to each step and the steps before it, newest first
+unfoldable pub each_newest : {A : Type 0} → (Step → Told → Option A) → Told → List A
+each_newest ask [] = []
+each_newest ask (s ∷ T) = let earlier = each_newest ask T in let here = ask s T in option_to_list here ++ earlier
 
 -- the step at a position, with the steps before it
 unfoldable pub step_at : Told → ℕ → Option (Step × Told)

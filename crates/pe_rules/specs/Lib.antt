@@ -8,6 +8,7 @@ pub mod Origins
 pub mod Denials
 pub mod InheritedPolicy
 pub mod Activation
+pub mod HistoryActivation
 pub mod Settings
 pub mod PermissionState
 pub mod Prompts

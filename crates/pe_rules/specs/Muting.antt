@@ -1,4 +1,4 @@
--- A history with the inputs, uses, posts and deliveries of other pages muted.
+-- A history with the inputs, uses, posts, deliveries and history actions of other pages muted.
 -- It is this project's own: it says what a page can learn of other pages.
 -- A muted event leaves a tick at its time.
 use Rattle.std.specs.Prelude.{ℕ, Bool, false, not, ◌==◌, [], ◌∷◌, Option, unwrap_or, option_map, if◌then◌else◌}
@@ -14,9 +14,10 @@ use Rattle.pe_rules.specs.Replies.{told}
 abbrev pub is_other_page : Option ℕ → ℕ → Bool
 is_other_page of_event top = not (unwrap_or (option_map (λ p. p == top) of_event) false)
 
--- the event is an input, a use, a post or a delivery of another page
+-- the event is an input, a use, a post, a delivery or a history action of another page
 unfoldable pub is_foreign : Told → ℕ → Event → Bool
 is_foreign T top (event.Input frame kind) = is_other_page (page_of_frame T frame) top
+is_foreign T top (event.History frame) = is_other_page (page_of_frame T frame) top
 is_foreign T top (event.UseCall frame call) = is_other_page (page_of_frame T frame) top
 is_foreign T top (event.Post sender target named capability) = is_other_page (page_of_frame T sender) top
 is_foreign T top (event.Deliver m) = is_other_page (option_map (λ x. x.page) (message T m)) top

@@ -5,7 +5,7 @@ use Rattle.std.specs.Prelude.{ℕ, Bool, true, false, ◌&&◌, ◌==◌, List, 
 use Rattle.pe_events.specs.declared.answer.Answer.TheVariants as answer
 use Rattle.pe_events.specs.declared.event.Event.{Event}
 use Rattle.pe_events.specs.declared.event.Event.TheVariants as event
-use Rattle.pe_rules.specs.History.{Item, Said, Step, Told, when, newest, each}
+use Rattle.pe_rules.specs.History.{Item, Said, Step, Told, when, newest, each, each_newest}
 
 -- the event makes a frame: it opens a page or embeds a frame
 abbrev pub makes_frame : Event → Bool
@@ -59,13 +59,13 @@ is_message T k = is_made (λ s. makes_message s.item) T k
 abbrev pub made : (Step → Bool) → Told → List ℕ
 made makes T = each (λ s B. option_to_list (when (makes s) (length (s ∷ B)))) T
 
--- the frames that were made
+-- the frames that were made, newest first
 unfoldable pub frames_made : Told → List ℕ
-frames_made T = made (λ s. makes_frame s.event) T
+frames_made T = each_newest (λ s B. when (makes_frame s.event) (length (s ∷ B))) T
 
--- the documents that were made
+-- the documents that were made, newest first
 unfoldable pub documents_made : Told → List ℕ
-documents_made T = made (λ s. is_some (document_frame s.event 0)) T
+documents_made T = each_newest (λ s B. when (is_some (document_frame s.event 0)) (length (s ∷ B))) T
 
 -- the last document made in a frame
 unfoldable pub last_document : Told → ℕ → Option ℕ

@@ -8,7 +8,8 @@ use Rattle.pe_events.specs.declared.event.Event.TheVariants as event
 use Rattle.pe_rules.specs.History.{Item, Said, Step, Told, when, newest, each}
 use Rattle.pe_rules.specs.Numbering.{made, makes_prompt}
 use Rattle.pe_rules.specs.Current.{is_current, document_in}
-use Rattle.pe_rules.specs.Settings.{Pair, is_same_pair, prompt_pair, prompt_page}
+use Rattle.pe_store.specs.Pairs.{Pair, is_same_pair}
+use Rattle.pe_rules.specs.Settings.{prompt_pair, prompt_page}
 
 -- the prompt that a request was told, made or joined
 abbrev pub prompt_told : Item → Option ℕ

@@ -3,6 +3,7 @@
 -- A history is regular where each event is accepted after those before it.
 use Rattle.std.specs.Prelude.{ℕ, ◌+◌, Bool, true, false, not, ◌&&◌, List, [], ◌∷◌, map, length, Option, Some, None, is_none, unwrap_or, option_map, option_and_then, if◌then◌else◌}
 use Rattle.std.specs.Option.{option_or}
+use Rattle.pe_base.specs.Activation.{triggers}
 use Rattle.pe_base.specs.declared.denial.Denial.{Denial}
 use Rattle.pe_base.specs.declared.state.State.{State}
 use Rattle.pe_base.specs.declared.state.State.TheVariants as state
@@ -27,7 +28,8 @@ use Rattle.pe_rules.specs.History.{Item, Said, Judged, Told, History, when}
 use Rattle.pe_rules.specs.Current.{is_current, document_in}
 use Rattle.pe_rules.specs.Origins.{origin_of}
 use Rattle.pe_rules.specs.Denials.{why_denied, is_allowed}
-use Rattle.pe_rules.specs.Activation.{triggers, activated_count, has_sticky, has_transient}
+use Rattle.pe_rules.specs.Activation.{activated_count, has_sticky, has_transient}
+use Rattle.pe_rules.specs.HistoryActivation.{has_history_activation}
 use Rattle.pe_rules.specs.PermissionState.{permission_state}
 use Rattle.pe_rules.specs.Prompts.{waiting}
 use Rattle.pe_rules.specs.Delegation.{Message, message}
@@ -43,6 +45,11 @@ by_denial (Some denial) = answer.Denied (reason.Policy denial)
 abbrev pub by_verdict : Verdict → Answer
 by_verdict (verdict.Allowed way) = answer.Allowed
 by_verdict (verdict.Denied why) = answer.Denied why
+
+-- allowed where there is history-action activation
+abbrev pub by_history : Bool → Answer
+by_history true = answer.Allowed
+by_history false = answer.Denied reason.NoHistory
 
 -- the state that a request found, or the prompt that it joined or made at position k
 abbrev pub by_request : State → ℕ → Option ℕ → Answer
@@ -96,6 +103,7 @@ answer_of duration T now (event.Attr frame name value) = answer.Done
 answer_of duration T now (event.Close frame) = answer.Done
 answer_of duration T now (event.Input frame kind) = if triggers kind then answer.Activated (activated_count (event.Input frame kind) T) else answer.Ignored
 answer_of duration T now (event.Ask frame) = or_done (option_map (λ d. answer.Activity (has_sticky T d) (has_transient duration T now d)) (document_in T frame))
+answer_of duration T now (event.History frame) = or_done (option_map (λ d. by_history (has_history_activation T d)) (document_in T frame))
 answer_of duration T now (event.PolicyOf frame feature) = or_done (option_and_then (λ d. option_map (λ f. by_denial (why_denied T f d)) (feature_named feature)) (document_in T frame))
 answer_of duration T now (event.Features frame) = or_done (option_map (λ d. answer.Names (map (is_allowed T d) all_features)) (document_in T frame))
 answer_of duration T now (event.UseCall frame call) = or_done (option_and_then (λ d. option_map (λ c. by_verdict (verdict_of duration T now d c)) (call_named call)) (document_in T frame))

@@ -1,44 +1,32 @@
--- Permission keys, the settings of a pair of feature and key, how long they hold, and what is stored.
+-- Permission keys, the settings of a pair of feature and key, how long they hold, what is stored, and the embargo.
 -- Permissions, "permission store", "permission store entry", "permission key", "lifetime".
--- Lives and the key of `storage-access` are this project's own.
-use Rattle.std.specs.Prelude.{ℕ, ◌+◌, Bool, true, false, ◌&&◌, nat_lt, List, Option, Some, None, is_some, option_map, option_and_then}
+-- Lives, the key of `storage-access` and the embargo are this project's own: the third dismissal of a pair in a row denies it for a span.
+use Rattle.std.specs.Prelude.{ℕ, ◌+◌, Bool, true, false, ◌&&◌, nat_le, nat_lt, List, [], ◌∷◌, Option, Some, None, is_some, unwrap_or, option_map, option_and_then, if◌then◌else◌}
+use Rattle.std.specs.Option.{option_or}
+use Rattle.pe_base.specs.declared.limits.TheConstants.{EMBARGO_DISMISSALS, EMBARGO_SPAN}
 use Rattle.pe_base.specs.declared.state.State.{State}
 use Rattle.pe_base.specs.declared.state.State.TheVariants as state
 use Rattle.pe_features.specs.declared.feature.Feature.{Feature}
 use Rattle.pe_features.specs.declared.feature.KeyKind.{KeyKind}
 use Rattle.pe_features.specs.declared.feature.KeyKind.TheVariants as kind
-use Rattle.pe_features.specs.Features.{feature_named, same_feature, key_of}
+use Rattle.pe_features.specs.Features.{feature_named, key_of}
 use Rattle.pe_origin.specs.declared.origin.Origin.{Origin}
 use Rattle.pe_origin.specs.declared.origin.Origin.TheVariants as origin
-use Rattle.pe_origin.specs.Origins.{is_same_origin}
 use Rattle.pe_store.specs.declared.key.Key.{Key}
 use Rattle.pe_store.specs.declared.key.Key.TheVariants as key
 use Rattle.pe_store.specs.declared.key.Life.{Life}
 use Rattle.pe_store.specs.declared.key.Life.TheVariants as life
+use Rattle.pe_store.specs.Pairs.{Pair, is_same_pair}
 use Rattle.pe_events.specs.declared.event.Event.{Event}
 use Rattle.pe_events.specs.declared.event.Event.TheVariants as event
 use Rattle.pe_events.specs.declared.event.EventLife.{EventLife}
 use Rattle.pe_events.specs.declared.event.EventLife.TheVariants as given
 use Rattle.pe_events.specs.declared.event.Outcome.{Outcome}
 use Rattle.pe_events.specs.declared.event.Outcome.TheVariants as outcome
-use Rattle.pe_rules.specs.History.{Told, when, newest, step_at, clock}
+use Rattle.pe_rules.specs.History.{Step, Told, when, step_at, clock}
 use Rattle.pe_rules.specs.Embedders.{top_document, page}
 use Rattle.pe_rules.specs.Current.{is_current, document_in}
 use Rattle.pe_rules.specs.Origins.{origin_of, place_or_none}
-
--- a feature and a key
-abbrev pub Pair : Type 0
-Pair = Feature × Key
-
--- the two keys are one
-abbrev pub is_same_key : Key → Key → Bool
-is_same_key (key.One a) (key.One b) = is_same_origin a b
-is_same_key (key.Pair a b) (key.Pair c d) = is_same_origin a c && is_same_origin b d
-is_same_key _ _ = false
-
--- the two pairs are one
-unfoldable pub is_same_pair : Pair → Pair → Bool
-is_same_pair p q = same_feature p.0 q.0 && is_same_key p.1 q.1
 
 -- the key of a kind, of the origins of a top document and of a document of its page
 abbrev pub key_by_kind : KeyKind → Origin → Origin → Key
@@ -93,23 +81,19 @@ life_of_answer time (given.For ms) top = life.Until (time + ms)
 life_of_answer time given.Once (Some top) = life.Page top
 life_of_answer time given.Once None = life.Until 0
 
--- the state that an outcome stores; a dismissal stores nothing
+-- the state that an outcome stores; a dismissal by itself stores nothing
 abbrev pub stored_by_outcome : Outcome → Option State
 stored_by_outcome outcome.Allow = Some state.Granted
 stored_by_outcome outcome.Block = Some state.Denied
 stored_by_outcome outcome.Dismiss = None
 
--- the setting that the event makes at this time, after these steps
-unfoldable pub setting_by : ℕ → Event → Told → Option Setting
-setting_by time (event.SetState feature first second state span) B =
+-- the setting that a `set`, or an answer that allows or blocks, makes at this time, after these steps
+unfoldable pub setting_named : ℕ → Event → Told → Option Setting
+setting_named time (event.SetState feature first second state span) B =
     option_and_then (λ f. option_map (λ o. record { pair = (f, key_of_words o (option_and_then word_origin second)); state = state; life = life_for time span }) (word_origin first)) (feature_named feature)
-setting_by time (event.Answered prompt out given) B =
+setting_named time (event.Answered prompt out given) B =
     option_and_then (λ state. option_map (λ pair. record { pair = pair; state = state; life = life_of_answer time given (option_and_then (document_in B) (prompt_page B prompt)) }) (prompt_pair B prompt)) (stored_by_outcome out)
-setting_by time e B = None
-
--- the last setting of a pair
-unfoldable pub last_setting : Told → Pair → Option Setting
-last_setting T pair = newest (λ s B. option_and_then (λ x. when (is_same_pair x.pair pair) x) (setting_by s.time s.event B)) T
+setting_named time e B = None
 
 -- a life holds at a time
 unfoldable pub holds : Told → ℕ → Life → Bool
@@ -117,9 +101,86 @@ holds T now life.Forever = true
 holds T now (life.Until end) = nat_lt now end
 holds T now (life.Page d) = is_current T d
 
+-- ---- dismissals and the embargo
+
+-- what stands for a pair: its last setting, and how many dismissals of it counted since, or ever where there is none
+pub record Standing : Type 0 where
+  pub last : Option Setting
+  pub dismissals : ℕ
+
+-- the state that a last setting stores at a time: its own, while its life holds
+unfoldable pub stored_by : Told → ℕ → Option Setting → Option State
+stored_by T now last = option_and_then (λ x. when (holds T now x.life) x.state) last
+
+-- nothing or prompt: the user did not decide
+abbrev pub is_undecided : Option State → Bool
+is_undecided None = true
+is_undecided (Some state.Prompt) = true
+is_undecided other = false
+
+-- the pair of the prompt that the event dismisses
+abbrev pub dismissed_pair : Event → Told → Option Pair
+dismissed_pair (event.Answered prompt outcome.Dismiss given) B = prompt_pair B prompt
+dismissed_pair e B = None
+
+-- a dismissal of a pair counts where nothing or prompt is stored for it at that time
+unfoldable pub counts : Told → ℕ → Standing → Bool
+counts B time before = is_undecided (stored_by B time before.last)
+
+-- the setting of an embargo: denied for its span
+abbrev pub embargo : ℕ → Pair → Setting
+embargo time pair = record { pair = pair; state = state.Denied; life = life.Until (time + EMBARGO_SPAN) }
+
+-- one more dismissal that counts is an embargo
+abbrev pub completes_embargo : Standing → Bool
+completes_embargo before = nat_le EMBARGO_DISMISSALS (before.dismissals + 1)
+
+-- what stands for a pair after one more dismissal that counts
+abbrev pub after_dismissal : ℕ → Pair → Standing → Standing
+after_dismissal time pair before =
+    if completes_embargo before then record { last = Some (embargo time pair); dismissals = 0 }
+    else record { last = before.last; dismissals = before.dismissals + 1 }
+
+-- the pair is this one
+abbrev pub is_pair : Option Pair → Pair → Bool
+is_pair named pair = unwrap_or (option_map (λ p. is_same_pair p pair) named) false
+
+-- what stands for a pair after a step that makes no setting of it by name
+unfoldable pub after_unnamed : Step → Told → Pair → Standing → Standing
+after_unnamed s B pair before =
+    if is_pair (dismissed_pair s.event B) pair && counts B s.time before then after_dismissal s.time pair before else before
+
+-- what stands for a pair after a step: a setting starts the count anew
+unfoldable pub after_step : Step → Told → Pair → Standing → Standing
+after_step s B pair before =
+    unwrap_or (option_map (λ x. record { last = Some x; dismissals = 0 }) (option_and_then (λ x. when (is_same_pair x.pair pair) x) (setting_named s.time s.event B))) (after_unnamed s B pair before)
+
+-- what stands for a pair
+unfoldable pub standing_of : Told → Pair → Standing
+standing_of [] pair = record { last = None; dismissals = 0 }
+standing_of (s ∷ T) pair = let before = standing_of T pair in after_step s T pair before
+
+-- the last setting of a pair
+unfoldable pub last_setting : Told → Pair → Option Setting
+last_setting T pair = (standing_of T pair).last
+
+-- how many dismissals of a pair counted since its last setting
+unfoldable pub dismissals : Told → Pair → ℕ
+dismissals T pair = (standing_of T pair).dismissals
+
+-- the embargo that a dismissal of this pair makes at this time, after these steps
+unfoldable pub embargo_for : ℕ → Told → Pair → Option Setting
+embargo_for time B pair = let before = standing_of B pair in when (counts B time before && completes_embargo before) (embargo time pair)
+
+-- the setting that the event makes at this time, after these steps: by name, or as an embargo
+unfoldable pub setting_by : ℕ → Event → Told → Option Setting
+setting_by time e B = option_or (setting_named time e B) (option_and_then (embargo_for time B) (dismissed_pair e B))
+
+-- ---- what is stored
+
 -- the stored state of a pair at a time: that of its last setting while its life holds; no earlier setting is looked at
 unfoldable pub stored : Told → ℕ → Pair → Option State
-stored T now pair = option_and_then (λ x. when (holds T now x.life) x.state) (last_setting T pair)
+stored T now pair = stored_by T now (last_setting T pair)
 
 -- the pair has an entry: something is stored at the clock
 unfoldable pub has_entry : Told → Pair → Bool

@@ -222,6 +222,7 @@ verbs =
     ∷ (codes "close", read_on_frame event.Close)
     ∷ (codes "input", read_input)
     ∷ (codes "state", read_on_frame event.Ask)
+    ∷ (codes "history", read_on_frame event.History)
     ∷ (codes "policy", read_with_name event.PolicyOf)
     ∷ (codes "features", read_on_frame event.Features)
     ∷ (codes "use", read_with_name event.UseCall)

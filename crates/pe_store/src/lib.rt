@@ -2,5 +2,7 @@
 #![tactic(auto)]
 
 mod key;
+mod law;
 
 pub use key::{Key, Life};
+pub use law::same_pairs_are_one;

@@ -1,5 +1,0 @@
-use Rattle.pe_policy.proofs.Values.{denial-value}
-use Rattle.pe_policy.proofs.law.denial_is_by_value.Goals as goal
-
-pub returns : goal.returns
-returns c = denial-value c.args.feature
