@@ -10,9 +10,14 @@ mod ClosedFrame
 mod ClosingAndNavigatingAboveAFrame
 mod CommentsAndBlanks
 mod ConsumingReachesThePage
+mod CountAfterALifeEnded
 mod DeclaredOriginOfAContainer
 mod DelegatedPayment
+mod DismissalWhileGranted
 mod Dismissals
+mod DismissalsAcrossPages
+mod DismissalsOfOnePairKey
+mod EmbargoAfterThreeDismissals
 mod EmbedderHeader
 mod FeaturesOfAPage
 mod FewPrompts
@@ -25,6 +30,12 @@ mod HeaderDeniesItself
 mod HeaderEnablesNothing
 mod HeaderForAnotherOrigin
 mod HeadersJoinedAndUndeclared
+mod HistoryAction
+mod HistoryAfterConsuming
+mod HistoryAfterNavigation
+mod HistoryAtOneMillisecond
+mod HistoryInAFrameBelow
+mod HistoryOfOtherPages
 mod InputActivates
 mod InsecureBeforePolicy
 mod JoinedPrompt
@@ -65,6 +76,7 @@ mod RefusedLineMovesNoClock
 mod Repeated
 mod RequestsOfGoneDocuments
 mod SecureContexts
+mod SettingStartsTheCountAnew
 mod StaleNames
 mod StatusOfAClosedFrame
 mod TestsOfAPost
