@@ -1,1 +1,2 @@
 pub mod Activation
+pub mod Prefix

@@ -3,6 +3,7 @@
 #![tactic(auto)]
 
 mod bytes;
+mod decimal;
 mod denial;
 mod input;
 mod limits;
@@ -12,6 +13,7 @@ mod steps;
 mod time;
 
 pub use bytes::Bytes;
+pub use decimal::put_number;
 pub use denial::{Denial, LinkRule};
 pub use input::{InputKind, Stamp};
 pub use limits::{

@@ -6,9 +6,14 @@ mod cause;
 mod event;
 mod reason;
 mod stamped;
+mod text;
 
 pub use answer::{Answer, Change};
 pub use cause::Cause;
 pub use event::{AttrName, Event, EventLife, Outcome};
 pub use reason::{Reason, Verdict, Via};
 pub use stamped::Stamped;
+pub use text::{answer_text, change_text, put_answer, put_change};
+
+#[cfg(test)]
+mod tests;

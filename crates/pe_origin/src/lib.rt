@@ -8,7 +8,7 @@ mod scheme;
 mod trust;
 
 pub use law::same_origins_are_one;
-pub use origin::{Origin, Tuple, origin_text, same_origin};
+pub use origin::{Origin, Tuple, origin_text, put_origin, same_origin};
 pub use place::{Place, PlaceFault, PlaceKind, read_place};
 pub use scheme::{HostForm, Scheme};
 pub use trust::trustworthy;

@@ -1,9 +1,10 @@
 //! Origins.
-ghost use Rattle.std.specs.Prelude.{◌≡◌, ◌↔◌, IfOk, IsTrue};
+ghost use Rattle.std.specs.Prelude.{◌≡◌, ◌↔◌, ◌++◌, IfOk, OnOk, IsTrue};
+ghost use Rattle.pe_base.specs.Prefix.{IsPrefix};
 ghost use Rattle.pe_origin.specs.Origins as spec;
 
 use crate::scheme::{HostForm, Scheme};
-use pe_base::{Bytes, DocNo};
+use pe_base::{Bytes, DocNo, put_number};
 use std::alloc::{AllocError, Global};
 
 /// A tuple origin (HTML Standard, "origin").
@@ -63,30 +64,42 @@ pub fn same_origin(a: &Origin, b: &Origin) -> bool
     *a == *b
 }
 
-fn tuple_text(alloc: Global, tuple: &Tuple) -> Result<Vec<u8>, AllocError>
-    ensures { IfOk result (λ text. text.items ≡ spec.tuple_text tuple.now) }
+/// Puts the serialization of a tuple origin behind a text.
+fn put_tuple(tuple: &Tuple, out: &mut Vec<u8>) -> Result<(), AllocError>
+    ensures appended { OnOk result (out.new.items ≡ out.old.items ++ spec.tuple_text tuple.now) }
+    ensures front { IsPrefix out.old.items out.new.items }
 {
-    let mut text = Vec::new(alloc);
-    text.extend_from_slice(tuple.scheme.name().as_bytes())?;
-    text.extend_from_slice(b"://")?;
-    text.extend_from_slice(tuple.host.as_slice())?;
-    if tuple.port != tuple.scheme.default_port() {
-        let port = format!(in alloc; ":{}", tuple.port)?;
-        text.extend_from_slice(port.as_bytes())?;
+    out.extend_from_slice(tuple.scheme.name().as_bytes())?;
+    out.extend_from_slice(b"://")?;
+    out.extend_from_slice(tuple.host.as_slice())?;
+    if tuple.port == tuple.scheme.default_port() {
+        return Ok(());
     }
-    Ok(text)
+    out.extend_from_slice(b":")?;
+    put_number(u64::from(tuple.port), out)
 }
 
-/// The text of an origin: of a tuple its serialization (HTML Standard, "serialization of an origin"),
-/// and of the opaque origin of document 3 `opaque:d3`. `AllocError` where memory wants.
+/// Puts the text of an origin behind another: of a tuple its serialization (HTML Standard,
+/// "serialization of an origin"), and of the opaque origin of document 3 `opaque:d3`. `AllocError` where
+/// memory wants; what stood is then still a front of the text.
+pub fn put_origin(origin: &Origin, out: &mut Vec<u8>) -> Result<(), AllocError>
+    ensures appended { OnOk result (out.new.items ≡ out.old.items ++ spec.origin_text origin.now) }
+    ensures front { IsPrefix out.old.items out.new.items }
+{
+    match origin {
+        Origin::Tuple(tuple) => put_tuple(tuple, out),
+        Origin::Opaque(doc) => {
+            out.extend_from_slice(b"opaque:d")?;
+            put_number(u64::from(doc.get()), out)
+        }
+    }
+}
+
+/// The text of an origin, as `put_origin` puts it. `AllocError` where memory wants.
 pub fn origin_text(alloc: Global, origin: &Origin) -> Result<Vec<u8>, AllocError>
     ensures { IfOk result (λ text. text.items ≡ spec.origin_text origin.now) }
 {
-    match origin {
-        Origin::Tuple(tuple) => tuple_text(alloc, tuple),
-        Origin::Opaque(doc) => {
-            let text = format!(in alloc; "opaque:d{}", doc.get())?;
-            Ok(text.into_bytes())
-        }
-    }
+    let mut text = Vec::new(alloc);
+    put_origin(origin, &mut text)?;
+    Ok(text)
 }
