@@ -6,7 +6,6 @@ use Rattle.pe_allowlist.specs.Lists.{is_policy_controlled}
 use Rattle.pe_policy.specs.Links.{Link, last_link}
 use Rattle.pe_policy.specs.Denials.{first_failing, denial}
 use Rattle.pe_policy.specs.InheritedPolicy.{value_for}
-use Rattle.pe_policy.proofs.Values.{denial-value}
 use Rattle.pe_rules.specs.History.{Told}
 use Rattle.pe_rules.specs.Making.{Making, making_by, along}
 use Rattle.pe_rules.specs.Embedders.{chain}
@@ -46,25 +45,31 @@ origin-end T x front d = ap (λ (l : Link). l.origin) (last-end T x front d)
 abbrev Agrees : Feature → List Link → Origin → Type 0
 Agrees f ls o = (denial f ls ≡ None) ↔ (value_for f ls o ≡ true)
 
-agrees-top : (T : Told) (f : Feature) (d : ℕ) → IsTrue (is_policy_controlled f) → Agrees f (link T d ∷ []) (origin_of T d)
-unfolding link
-agrees-top T f d h = denial-value f (link T d) [] h
+module _ (
+    values : (f : Feature) (top : Link) (rest : List Link)
+    → IsTrue (is_policy_controlled f)
+    → (denial f (top ∷ rest) ≡ None) ↔ (value_for f (top ∷ rest) (last_link top rest).origin ≡ true)
+    )
+  where
+    agrees-top : (T : Told) (f : Feature) (d : ℕ) → IsTrue (is_policy_controlled f) → Agrees f (link T d ∷ []) (origin_of T d)
+    unfolding link
+    agrees-top T f d h = values f (link T d) [] h
 
-agrees-ends : (T : Told) (f : Feature) (d : ℕ) (front : List ℕ) → IsTrue (is_policy_controlled f) → Agrees f (map (link T) (front ++ d ∷ [])) (origin_of T d)
-agrees-ends T f d [] h = agrees-top T f d h
-agrees-ends T f d (x ∷ front) h = rw (← origin-end T x front d) (denial-value f (link T x) (map (link T) (front ++ d ∷ [])) h)
+    agrees-ends : (T : Told) (f : Feature) (d : ℕ) (front : List ℕ) → IsTrue (is_policy_controlled f) → Agrees f (map (link T) (front ++ d ∷ [])) (origin_of T d)
+    agrees-ends T f d [] h = agrees-top T f d h
+    agrees-ends T f d (x ∷ front) h = rw (← origin-end T x front d) (values f (link T x) (map (link T) (front ++ d ∷ [])) h)
 
-agrees-none : (f : Feature) (o : Origin) → IsTrue (is_policy_controlled f) → Agrees f [] o
-unfolding first_failing denial value_for
-agrees-none f o h = (λ e. refl, λ e. rw h refl)
+    agrees-none : (f : Feature) (o : Origin) → IsTrue (is_policy_controlled f) → Agrees f [] o
+    unfolding first_failing denial value_for
+    agrees-none f o h = (λ e. refl, λ e. rw h refl)
 
-agrees : (T : Told) (f : Feature) (d : ℕ) → IsTrue (is_policy_controlled f) → Agrees f (links T d) (origin_of T d)
-unfolding links
-agrees T f d h = elim (chain-ends T d) as (λ x. Agrees f (map (link T) (chain T d)) (origin_of T d)) [
-  | inl e ↦ rw e (agrees-none f (origin_of T d) h)
-  | inr e ↦ rw (e.1) (agrees-ends T f d e.0 h)
-]
+    agrees : (T : Told) (f : Feature) (d : ℕ) → IsTrue (is_policy_controlled f) → Agrees f (links T d) (origin_of T d)
+    unfolding links
+    agrees T f d h = elim (chain-ends T d) as (λ x. Agrees f (map (link T) (chain T d)) (origin_of T d)) [
+      | inl e ↦ rw e (agrees-none f (origin_of T d) h)
+      | inr e ↦ rw (e.1) (agrees-ends T f d e.0 h)
+    ]
 
-pub denied-enabled : (T : Told) (f : Feature) (d : ℕ) → IsTrue (is_policy_controlled f) → (why_denied T f d ≡ None) ↔ (is_enabled T f d ≡ true)
-unfolding why_denied is_enabled is_enabled_for
-denied-enabled T f d h = agrees T f d h
+    pub denied-enabled : (T : Told) (f : Feature) (d : ℕ) → IsTrue (is_policy_controlled f) → (why_denied T f d ≡ None) ↔ (is_enabled T f d ≡ true)
+    unfolding why_denied is_enabled is_enabled_for
+    denied-enabled T f d h = agrees T f d h

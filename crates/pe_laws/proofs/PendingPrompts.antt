@@ -1,10 +1,12 @@
 -- Of each pair, one prompt of a page is pending.
 use Rattle.std.proofs.Common.{◌≡◌, ◌≢◌, ◌⊎◌, inl, inr, ℕ, suc, ◌+◌, ◌≤◌, Bool, true, false, not, ◌&&◌, ◌||◌, ◌==◌, List, [], ◌∷◌, ◌++◌, length, filter, Option, Some, None, is_some, unwrap_or, option_map, option_and_then, option_to_list, refl, sym, ◌∙◌, ap, arith, length-append}
 use Rattle.std.specs.Option.{option_or}
+use Rattle.std.specs.Bool.{Decides}
 use Rattle.std.specs.List.{list_any}
 use Rattle.std.proofs.lemmas.List.Folds.{list_any-append}
 use Rattle.pe_features.specs.declared.feature.Feature.{Feature}
 use Rattle.pe_features.specs.Features.{feature_named}
+use Rattle.pe_store.specs.Pairs.{Pair, is_same_pair}
 use Rattle.pe_events.specs.declared.event.Event.{Event}
 use Rattle.pe_events.specs.declared.event.Event.TheVariants as event
 use Rattle.pe_rules.specs.History.{Step, Told, History, when, newest, each, step_at}
@@ -12,7 +14,7 @@ use Rattle.pe_rules.specs.Numbering.{made, makes_prompt}
 use Rattle.pe_rules.specs.Embedders.{page}
 use Rattle.pe_rules.specs.Current.{is_current, document_in}
 use Rattle.pe_rules.specs.Activation.{is_one_of}
-use Rattle.pe_rules.specs.Settings.{Pair, is_same_pair, pair_for, asking, prompt_pair, prompt_page}
+use Rattle.pe_rules.specs.Settings.{pair_for, asking, prompt_pair, prompt_page}
 use Rattle.pe_rules.specs.Prompts.{prompt_told, asker, asker_of, requests, answers, is_settled, waiting, is_pending, is_prompt_of, pending, first_of, is_prompt_for, joined}
 use Rattle.pe_rules.specs.Causes.{joining}
 use Rattle.pe_rules.specs.Replies.{item_of, told}
@@ -20,7 +22,6 @@ use Rattle.pe_laws.specs.PendingPrompts.{IsOnePerPair}
 use Rattle.pe_laws.proofs.Numbers.{not_same, is_same, same-numbers}
 use Rattle.pe_laws.proofs.Older.{AllWithin}
 use Rattle.pe_laws.proofs.Current.{was-current, document-in-below}
-use Rattle.pe_laws.proofs.Pairs.{same-pair-decides}
 use Rattle.pe_laws.proofs.Lists.{both, of-filtered, into-filtered, left-of-filtered, first-is-one, none-without-first}
 use Rattle.pe_laws.proofs.PromptsTold.{AsksFor, told-asks, MakesFor, told-makes}
 
@@ -248,81 +249,82 @@ before s T top k asked h =
 
 -- ---- a new prompt asks for a pair of which none is pending
 
--- no pending prompt of the page asks for the pair, where a request of it joins none
-none-pending : (T : Told) (top l : ℕ) (pair : Pair) → joined T top pair ≡ None → is_one_of (pending T top) l ≡ true → prompt_pair T l ≡ Some pair → ⊥
-unfolding joined
-none-pending T top l pair none listed is = no (sym one ∙ none-without-first (filter (is_prompt_for T pair) (pending T top)) l none)
-  where
-    no : true ≡ false → ⊥
-    no e = cc
+module _ (pairs : (p q : Pair) → Decides (is_same_pair p q) (p ≡ q)) where
+  -- no pending prompt of the page asks for the pair, where a request of it joins none
+  none-pending : (T : Told) (top l : ℕ) (pair : Pair) → joined T top pair ≡ None → is_one_of (pending T top) l ≡ true → prompt_pair T l ≡ Some pair → ⊥
+  unfolding joined
+  none-pending T top l pair none listed is = no (sym one ∙ none-without-first (filter (is_prompt_for T pair) (pending T top)) l none)
+    where
+      no : true ≡ false → ⊥
+      no e = cc
 
-    asks : is_prompt_for T pair l ≡ true
-    asks = ap (λ o. unwrap_or (option_map (λ q. is_same_pair q pair) o) false) is ∙ (same-pair-decides pair pair).1 refl
+      asks : is_prompt_for T pair l ≡ true
+      asks = ap (λ o. unwrap_or (option_map (λ q. is_same_pair q pair) o) false) is ∙ (pairs pair pair).1 refl
 
-    one : is_one_of (filter (is_prompt_for T pair) (pending T top)) l ≡ true
-    one = into-filtered (is_prompt_for T pair) (pending T top) l asks listed
+      one : is_one_of (filter (is_prompt_for T pair) (pending T top)) l ≡ true
+      one = into-filtered (is_prompt_for T pair) (pending T top) l asks listed
 
--- a request with no prompt to join asks for a pair of which the page has no pending prompt
-none-asked : (T : Told) (frame : ℕ) (feature : List ℕ) (top l : ℕ) (pair : Pair) → joining T frame feature ≡ None
-    → option_and_then (λ (q : ℕ × Feature). pair_for T q.0 q.1) (asking (event.Request frame feature) T) ≡ Some pair
-    → unwrap_or (option_map (λ p. p == top) (option_map (λ (q : ℕ × Feature). page T q.0) (asking (event.Request frame feature) T))) false ≡ true
-    → is_one_of (pending T top) l ≡ true → prompt_pair T l ≡ Some pair → ⊥
-unfolding joining
-none-asked T frame feature top l pair none asks of_page listed is = by_document (document_in T frame) none asks of_page
-  where
-    by_pair : (d : ℕ) (o : Option Pair) → option_and_then (joined T (page T d)) o ≡ None → o ≡ Some pair → (page T d == top) ≡ true → ⊥
-    by_pair d None j e t = cc
-    by_pair d (Some q) j e t =
-        let same : q ≡ pair = cc in
-        none-pending T top l pair (ap (joined T top) (sym same) ∙ ap (λ n. joined T n q) (sym (same-numbers (page T d) top t)) ∙ j) listed is
+  -- a request with no prompt to join asks for a pair of which the page has no pending prompt
+  none-asked : (T : Told) (frame : ℕ) (feature : List ℕ) (top l : ℕ) (pair : Pair) → joining T frame feature ≡ None
+      → option_and_then (λ (q : ℕ × Feature). pair_for T q.0 q.1) (asking (event.Request frame feature) T) ≡ Some pair
+      → unwrap_or (option_map (λ p. p == top) (option_map (λ (q : ℕ × Feature). page T q.0) (asking (event.Request frame feature) T))) false ≡ true
+      → is_one_of (pending T top) l ≡ true → prompt_pair T l ≡ Some pair → ⊥
+  unfolding joining
+  none-asked T frame feature top l pair none asks of_page listed is = by_document (document_in T frame) none asks of_page
+    where
+      by_pair : (d : ℕ) (o : Option Pair) → option_and_then (joined T (page T d)) o ≡ None → o ≡ Some pair → (page T d == top) ≡ true → ⊥
+      by_pair d None j e t = cc
+      by_pair d (Some q) j e t =
+          let same : q ≡ pair = cc in
+          none-pending T top l pair (ap (joined T top) (sym same) ∙ ap (λ n. joined T n q) (sym (same-numbers (page T d) top t)) ∙ j) listed is
 
-    by_feature : (d : ℕ) (o : Option Feature) → option_and_then (λ f. option_and_then (joined T (page T d)) (pair_for T d f)) o ≡ None
-        → option_and_then (λ (q : ℕ × Feature). pair_for T q.0 q.1) (option_map (λ f. (d, f)) o) ≡ Some pair
-        → unwrap_or (option_map (λ p. p == top) (option_map (λ (q : ℕ × Feature). page T q.0) (option_map (λ f. (d, f)) o))) false ≡ true → ⊥
-    by_feature d None j e t = cc
-    by_feature d (Some f) j e t = by_pair d (pair_for T d f) j e t
+      by_feature : (d : ℕ) (o : Option Feature) → option_and_then (λ f. option_and_then (joined T (page T d)) (pair_for T d f)) o ≡ None
+          → option_and_then (λ (q : ℕ × Feature). pair_for T q.0 q.1) (option_map (λ f. (d, f)) o) ≡ Some pair
+          → unwrap_or (option_map (λ p. p == top) (option_map (λ (q : ℕ × Feature). page T q.0) (option_map (λ f. (d, f)) o))) false ≡ true → ⊥
+      by_feature d None j e t = cc
+      by_feature d (Some f) j e t = by_pair d (pair_for T d f) j e t
 
-    by_document : (o : Option ℕ) → option_and_then (λ d. option_and_then (λ f. option_and_then (joined T (page T d)) (pair_for T d f)) (feature_named feature)) o ≡ None
-        → option_and_then (λ (q : ℕ × Feature). pair_for T q.0 q.1) (option_and_then (λ d. option_map (λ f. (d, f)) (feature_named feature)) o) ≡ Some pair
-        → unwrap_or (option_map (λ p. p == top) (option_map (λ (q : ℕ × Feature). page T q.0) (option_and_then (λ d. option_map (λ f. (d, f)) (feature_named feature)) o))) false ≡ true → ⊥
-    by_document None j e t = cc
-    by_document (Some d) j e t = by_feature d (feature_named feature) j e t
+      by_document : (o : Option ℕ) → option_and_then (λ d. option_and_then (λ f. option_and_then (joined T (page T d)) (pair_for T d f)) (feature_named feature)) o ≡ None
+          → option_and_then (λ (q : ℕ × Feature). pair_for T q.0 q.1) (option_and_then (λ d. option_map (λ f. (d, f)) (feature_named feature)) o) ≡ Some pair
+          → unwrap_or (option_map (λ p. p == top) (option_map (λ (q : ℕ × Feature). page T q.0) (option_and_then (λ d. option_map (λ f. (d, f)) (feature_named feature)) o))) false ≡ true → ⊥
+      by_document None j e t = cc
+      by_document (Some d) j e t = by_feature d (feature_named feature) j e t
 
--- the prompt that the last step makes is of another pair than those that are pending in its page
-new-pair : (s : Step) (T : Told) (top k l : ℕ) (pair : Pair) → (makes_prompt s.item ≡ true → MakesFor T s.event)
-    → k ≡ suc (length T) → makes_prompt s.item ≡ true → is_prompt_of (s ∷ T) top k ≡ true → prompt_pair (s ∷ T) k ≡ Some pair
-    → is_one_of (pending T top) l ≡ true → prompt_pair T l ≡ Some pair → ⊥
-new-pair s T top k l pair for newest makes of_page asks listed is =
-    let request = for makes in
-    none-asked T request.0 request.1 top l pair request.3
-    (ap (λ e. option_and_then (λ (q : ℕ × Feature). pair_for T q.0 q.1) (asking e T)) (sym request.2) ∙ sym (prompt-pair-newest s T) ∙ ap (prompt_pair (s ∷ T)) (sym newest) ∙ asks)
-    (ap (λ e. unwrap_or (option_map (λ p. p == top) (option_map (λ (q : ℕ × Feature). page T q.0) (asking e T))) false) (sym request.2)
-    ∙ ap (λ o. unwrap_or (option_map (λ p. p == top) o) false) (sym (prompt-page-newest s T))
-    ∙ ap (is_prompt_of (s ∷ T) top) (sym newest)
-    ∙ of_page)
-    listed is
+  -- the prompt that the last step makes is of another pair than those that are pending in its page
+  new-pair : (s : Step) (T : Told) (top k l : ℕ) (pair : Pair) → (makes_prompt s.item ≡ true → MakesFor T s.event)
+      → k ≡ suc (length T) → makes_prompt s.item ≡ true → is_prompt_of (s ∷ T) top k ≡ true → prompt_pair (s ∷ T) k ≡ Some pair
+      → is_one_of (pending T top) l ≡ true → prompt_pair T l ≡ Some pair → ⊥
+  new-pair s T top k l pair for newest makes of_page asks listed is =
+      let request = for makes in
+      none-asked T request.0 request.1 top l pair request.3
+      (ap (λ e. option_and_then (λ (q : ℕ × Feature). pair_for T q.0 q.1) (asking e T)) (sym request.2) ∙ sym (prompt-pair-newest s T) ∙ ap (prompt_pair (s ∷ T)) (sym newest) ∙ asks)
+      (ap (λ e. unwrap_or (option_map (λ p. p == top) (option_map (λ (q : ℕ × Feature). page T q.0) (asking e T))) false) (sym request.2)
+      ∙ ap (λ o. unwrap_or (option_map (λ p. p == top) o) false) (sym (prompt-page-newest s T))
+      ∙ ap (is_prompt_of (s ∷ T) top) (sym newest)
+      ∙ of_page)
+      listed is
 
-one-step : (s : Step) (T : Told) → ((p : ℕ) → Asked s T p) → (makes_prompt s.item ≡ true → MakesFor T s.event) → IsOnePerPair T → IsOnePerPair (s ∷ T)
-one-step s T asked for older top k l pair hk hl pk pl = by_before (before s T top k asked hk) (before s T top l asked hl)
-  where
-    by_before : Before s T top k → Before s T top l → k ≡ l
-    by_before (inl a) (inl b) = older top k l pair a.0 b.0 (sym (prompt-pair-older s T k a.1) ∙ pk) (sym (prompt-pair-older s T l b.1) ∙ pl)
-    by_before (inr a) (inr b) = a.0 ∙ sym b.0
-    by_before (inr a) (inl b) = absurd (new-pair s T top k l pair for a.0 a.1 a.2 pk b.0 (sym (prompt-pair-older s T l b.1) ∙ pl))
-    by_before (inl a) (inr b) = absurd (new-pair s T top l k pair for b.0 b.1 b.2 pl a.0 (sym (prompt-pair-older s T k a.1) ∙ pk))
+  one-step : (s : Step) (T : Told) → ((p : ℕ) → Asked s T p) → (makes_prompt s.item ≡ true → MakesFor T s.event) → IsOnePerPair T → IsOnePerPair (s ∷ T)
+  one-step s T asked for older top k l pair hk hl pk pl = by_before (before s T top k asked hk) (before s T top l asked hl)
+    where
+      by_before : Before s T top k → Before s T top l → k ≡ l
+      by_before (inl a) (inl b) = older top k l pair a.0 b.0 (sym (prompt-pair-older s T k a.1) ∙ pk) (sym (prompt-pair-older s T l b.1) ∙ pl)
+      by_before (inr a) (inr b) = a.0 ∙ sym b.0
+      by_before (inr a) (inl b) = absurd (new-pair s T top k l pair for a.0 a.1 a.2 pk b.0 (sym (prompt-pair-older s T l b.1) ∙ pl))
+      by_before (inl a) (inr b) = absurd (new-pair s T top l k pair for b.0 b.1 b.2 pl a.0 (sym (prompt-pair-older s T k a.1) ∙ pk))
 
-one-at-first : IsOnePerPair []
-unfolding pending each
-one-at-first top k l pair hk hl pk pl = cc
+  one-at-first : IsOnePerPair []
+  unfolding pending each
+  one-at-first top k l pair hk hl pk pl = cc
 
--- of each pair, one prompt of a page is pending
-pub one-per-pair : (duration : ℕ) (H : History) → IsOnePerPair (told duration H)
-unfolding told
-one-per-pair duration [] = one-at-first
-one-per-pair duration (e ∷ H) =
-    let T : Told = told duration H in
-    let s : Step = record { time = e.time; event = e.event; item = item_of duration T e.time e.event } in
-    one-step s T (λ p. told-asks duration T e.time e.event p) (told-makes duration T e.time e.event) (one-per-pair duration H)
+  -- of each pair, one prompt of a page is pending
+  pub one-per-pair : (duration : ℕ) (H : History) → IsOnePerPair (told duration H)
+  unfolding told
+  one-per-pair duration [] = one-at-first
+  one-per-pair duration (e ∷ H) =
+      let T : Told = told duration H in
+      let s : Step = record { time = e.time; event = e.event; item = item_of duration T e.time e.event } in
+      one-step s T (λ p. told-asks duration T e.time e.event p) (told-makes duration T e.time e.event) (one-per-pair duration H)
 
 -- ---- a prompt that is no longer pending
 

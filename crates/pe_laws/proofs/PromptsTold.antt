@@ -1,5 +1,6 @@
 -- What is told of an event is a prompt only where it is a request.
 use Rattle.std.proofs.Common.{◌≡◌, ◌⊎◌, inl, inr, ℕ, ◌+◌, Bool, true, false, not, List, length, Option, Some, None, unwrap_or, option_map, option_and_then, refl, sym, ◌∙◌, ap, cond}
+use Rattle.pe_base.specs.Activation.{triggers}
 use Rattle.pe_base.specs.declared.denial.Denial.{Denial}
 use Rattle.pe_base.specs.declared.state.State.{State}
 use Rattle.pe_base.specs.declared.state.State.TheVariants as state
@@ -16,12 +17,13 @@ use Rattle.pe_rules.specs.Numbering.{makes_prompt}
 use Rattle.pe_rules.specs.Current.{is_current, document_in}
 use Rattle.pe_rules.specs.Origins.{origin_of}
 use Rattle.pe_rules.specs.Denials.{why_denied}
-use Rattle.pe_rules.specs.Activation.{triggers, activated_count}
+use Rattle.pe_rules.specs.Activation.{activated_count}
+use Rattle.pe_rules.specs.HistoryActivation.{has_history_activation}
 use Rattle.pe_rules.specs.PermissionState.{permission_state}
 use Rattle.pe_rules.specs.Prompts.{prompt_told}
 use Rattle.pe_rules.specs.Delegation.{Message, message}
 use Rattle.pe_rules.specs.Causes.{found, joining}
-use Rattle.pe_rules.specs.Replies.{by_denial, by_request, by_post, by_message, post_reason, or_done, answer_of, verdict_told, item_of}
+use Rattle.pe_rules.specs.Replies.{by_denial, by_history, by_request, by_post, by_message, post_reason, or_done, answer_of, verdict_told, item_of}
 
 -- the answer tells no prompt
 abbrev TellsNone : Answer → Type 0
@@ -38,6 +40,10 @@ then-none give (Some x) none = none x
 denial-none : (o : Option Denial) → TellsNone (by_denial o)
 denial-none None = refl
 denial-none (Some denial) = refl
+
+history-none : (b : Bool) → TellsNone (by_history b)
+history-none true = refl
+history-none false = refl
 
 post-none : (k : ℕ) (o : Option Reason) → TellsNone (by_post k o)
 post-none k None = refl
@@ -91,6 +97,7 @@ told-asks duration T now (event.Attr frame name value) k h = cc
 told-asks duration T now (event.Close frame) k h = cc
 told-asks duration T now (event.Input frame kind) k h = no-prompt _ k (input-none (triggers kind) (activated_count (event.Input frame kind) T)) h
 told-asks duration T now (event.Ask frame) k h = no-prompt _ k (map-none _ (document_in T frame) (λ d. refl)) h
+told-asks duration T now (event.History frame) k h = no-prompt _ k (map-none _ (document_in T frame) (λ d. history-none (has_history_activation T d))) h
 told-asks duration T now (event.PolicyOf frame feature) k h = no-prompt _ k (then-none _ (document_in T frame) (λ d. map-none (λ f. by_denial (why_denied T f d)) (feature_named feature) (λ f. denial-none (why_denied T f d)))) h
 told-asks duration T now (event.Features frame) k h = no-prompt _ k (map-none _ (document_in T frame) (λ d. refl)) h
 told-asks duration T now (event.UseCall frame call) k h = no-prompt _ k (use-none (verdict_told duration T now frame call)) h

@@ -7,7 +7,8 @@ use Rattle.pe_features.specs.declared.feature.Feature.{Feature}
 use Rattle.pe_store.specs.declared.key.Life.{Life}
 use Rattle.pe_store.specs.declared.key.Life.TheVariants as life
 use Rattle.pe_rules.specs.History.{Told, each, clock}
-use Rattle.pe_rules.specs.Settings.{Pair, Setting, pair_for, setting_by, last_setting}
+use Rattle.pe_store.specs.Pairs.{Pair}
+use Rattle.pe_rules.specs.Settings.{Setting, pair_for, setting_by, last_setting}
 use Rattle.pe_rules.specs.Changes.{numbers_above}
 
 -- the life ends at this moment

@@ -3,7 +3,8 @@
 use Rattle.std.specs.Prelude.{◌≡◌, ℕ, IsTrue, Some}
 use Rattle.pe_rules.specs.History.{Told}
 use Rattle.pe_rules.specs.Activation.{is_one_of}
-use Rattle.pe_rules.specs.Settings.{Pair, prompt_pair}
+use Rattle.pe_store.specs.Pairs.{Pair}
+use Rattle.pe_rules.specs.Settings.{prompt_pair}
 use Rattle.pe_rules.specs.Prompts.{pending}
 
 -- two pending prompts of a page that ask for one pair are one prompt

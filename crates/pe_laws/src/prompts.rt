@@ -6,6 +6,8 @@ ghost use Rattle.pe_rules.specs.Prompts.{is_settled, is_pending};
 ghost use Rattle.pe_rules.specs.Replies.{told};
 ghost use Rattle.pe_laws.specs.PendingPrompts.{IsOnePerPair};
 
+use pe_store::same_pairs_are_one;
+
 /// A prompt that was there before an event keeps the pair and the page of its request, and one that was
 /// settled stays settled.
 pub fn older_prompts_stay()
@@ -27,4 +29,6 @@ pub fn gone_prompts_stay_gone()
 /// that ask for one pair are one prompt. A later request of the pair joins it.
 pub fn pending_prompts_of_a_pair_are_one()
     ensures { (duration : ℕ) (H : History) → IsOnePerPair (told duration H) }
-{}
+{
+    same_pairs_are_one();
+}
