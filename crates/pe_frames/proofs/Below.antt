@@ -20,7 +20,7 @@ pub last-push : (ks : List Handle) (k : Handle) → last_of (ks ++ k ∷ []) ≡
 last-push [] k = refl
 last-push (x ∷ ks) k = ap (λ o. Some (unwrap_or o x)) (last-push ks k)
 
-first-push : (ks : List Handle) (k h : Handle) → first_of (ks ++ k ∷ []) h ≡ first_of ks k
+pub first-push : (ks : List Handle) (k h : Handle) → first_of (ks ++ k ∷ []) h ≡ first_of ks k
 first-push [] k h = refl
 first-push (x ∷ ks) k h = refl
 

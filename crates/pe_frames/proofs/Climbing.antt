@@ -80,14 +80,14 @@ module _ {D : Type 0} where
   parent-stands es k here at = ap (option_and_then parent_of) at.found ∙ sym (ap (λ x. x.parent) at.is)
 
   -- a live frame and its parent
-  record Steps (es : List (Entry D)) (k p : Handle) : Type 0 where
-    entry : Entry D
-    found : entry_of es k ≡ Some entry
-    parent : parent_of entry ≡ Some p
-    up : IsParent es p entry
+  pub record Steps (es : List (Entry D)) (k p : Handle) : Type 0 where
+    pub entry : Entry D
+    pub found : entry_of es k ≡ Some entry
+    pub parent : parent_of entry ≡ Some p
+    pub up : IsParent es p entry
 
   module _ (es : List (Entry D)) (tree : IsTree es DEPTH_LIMIT) where
-    steps-of : (k p : Handle) → option_and_then parent_of (entry_of es k) ≡ Some p → Steps es k p
+    pub steps-of : (k p : Handle) → option_and_then parent_of (entry_of es k) ≡ Some p → Steps es k p
     steps-of k p q = by_entry (entry_of es k) refl q
       where
         by_entry : (o : Option (Entry D)) → entry_of es k ≡ o → option_and_then parent_of o ≡ Some p → Steps es k p

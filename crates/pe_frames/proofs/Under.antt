@@ -35,7 +35,7 @@ module _ {D : Type 0} where
   pub handles-are : (es : List (Entry D)) (h : Handle) (e : Entry D) → entry_of es h ≡ Some e → handles_under es h ≡ walk DEPTH_LIMIT es e
   handles-are es h e f = rw f refl
 
-  handles-none : (es : List (Entry D)) (h : Handle) → entry_of es h ≡ None → handles_under es h ≡ []
+  pub handles-none : (es : List (Entry D)) (h : Handle) → entry_of es h ≡ None → handles_under es h ≡ []
   handles-none es h f = rw f refl
 
   -- the frame has its handle
