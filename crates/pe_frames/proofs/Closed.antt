@@ -23,7 +23,7 @@ use Rattle.pe_frames.proofs.Cuts.{frame-of, IsForest-cut, entries-cut, StayDead-
 use Rattle.pe_frames.proofs.Without.{after-itself, before-itself}
 use Rattle.pe_frames.proofs.Within.{goes-under, root-goes, parent-stays, child-goes, top-goes, page-goes, embedder-of}
 use Rattle.pe_frames.proofs.Unlinked.{at-keeps, unlinked-node, unlinked-size, child-listed, siblings-once, after-has, before-has, links-closed}
-use Rattle.pe_frames.proofs.Leaving.{Changes, stayed, Leaves, page-less, pages-same, pages-one, IsCut-left, sized-left}
+use Rattle.pe_frames.proofs.Leaving.{Changes, stayed, Leaves, page-less, pages-same, pages-one, IsCut-left, sized-left, length-left}
 
 some_same : {A : Type 0} {a b : A} → Some a ≡ Some b → a ≡ b
 some_same e = cc
@@ -277,6 +277,13 @@ module _ {D : Type 0} where
               shrunk-links : (es : List (Entry D)) (b : Bool) (n : ℕ) (k : Handle) (r : Row D) → HasLinks es k r → HasLinks es k (cond b (smaller n r) r)
               shrunk-links es true n k r has = has
               shrunk-links es false n k r has = has
+
+          pub length-closed : length (kept s order []) ≡ length (kept t order []) + length (handles_under (entries_in (kept s order [])) h)
+          length-closed =
+              let es = entries_in (kept s order []) in
+              let ks = handles_under es h in
+              let l = links_in es h (parent_of e) in
+              length-left s order pages is ks (λ x. not (is_under h x)) (top_of e) leaves-closed t (λ k r. at (page_left e) (smaller (length ks)) k (unlinked l (parent_of e) k r)) changes-closed
 
           module _ (swept : List Handle) (sweeps : Sweeps t order swept) where
             pub IsForest-closed : (count : ℕ) → count + cond (is_none (parent_of e)) 1 0 ≡ pages → IsForest t swept count

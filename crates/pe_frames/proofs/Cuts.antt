@@ -245,6 +245,15 @@ module _ {D : Type 0} where
     pub rooted : (k : Handle) (e : Entry D) (p : Handle) → entry_of (entries_in (kept s order [])) k ≡ Some e → parent_of e ≡ Some p → gone k ≡ false → gone p ≡ false
     pub same : SameMarks s t
 
+  -- a frame for each that is kept
+  pub length-entries : (xs : List (Kept D)) → length (entries_in xs) ≡ length xs
+  length-entries [] = refl
+  length-entries (x ∷ xs) = let rest = length-entries xs in omega (arith, rest)
+
+  -- a list that is not swept
+  pub Sweeps-none : (s : Slots (Row D)) (order : List Handle) → Sweeps s order order
+  Sweeps-none s order = record { same = refl; listed = λ h p q. q; known = λ h q. q }
+
   -- a live frame of a node
   pub record FrameOf (o : Option (Entry D)) (n : Node D) : Type 0 where
     pub entry : Entry D
@@ -293,6 +302,10 @@ module _ {D : Type 0} where
 
     entries-kept : entries_in (kept t swept []) ≡ filter stays (entries_in (kept s order []))
     entries-kept = ap entries_in kept-cut ∙ entries-stay gone stays (kept s order []) is.apart all-rooted each-agrees
+
+    -- as many are kept
+    pub length-cut : length (kept t swept []) ≡ length (filter stays (entries_in (kept s order [])))
+    length-cut = sym (length-entries (kept t swept [])) ∙ ap length entries-kept
 
     -- the frames are those that stay
     pub entries-cut : (forest_in t swept).entries ≡ filter stays (forest_in s order).entries

@@ -11,14 +11,14 @@ use Rattle.pe_frames.specs.declared.node.Place.{Place}
 use Rattle.pe_frames.specs.Forest.{Gives, StayDead, same_handle, parent_of, top_of, entry_of, node_in, page_size, page_count}
 use Rattle.pe_frames.specs.Order.{head_of}
 use Rattle.pe_frames.specs.Links.{Rewrites, at, young, linked}
-use Rattle.pe_frames.specs.Kept.{kept, node_at, entry_in, entries_in, HasLinks, forest_in, IsForest}
+use Rattle.pe_frames.specs.Kept.{kept, node_at, entry_in, entries_in, HasLinks, forest_in, IsForest, IsSwept}
 use Rattle.pe_frames.proofs.Nodes.{same_handle-Decides, kept-live, found-live}
 use Rattle.pe_frames.proofs.Pages.{entry-absent, not_same}
 use Rattle.pe_frames.proofs.Writes.{Rewrites-one, Rewrites-then, still-live}
 use Rattle.pe_frames.proofs.Below.{IsBelow, IsCounted, IsCounted-below, room_is, node-below, top-entry, pages-below}
 use Rattle.pe_frames.proofs.Kin.{child-absent, childless}
 use Rattle.pe_frames.proofs.Linked.{linked-node, linked-size, grown, grown-node, grown-size, grown-links, links-new, links-old, last-is-child, last-kept}
-use Rattle.pe_frames.proofs.Opened.{Steps, Makes, Makes-steps, each-row, sized-below, IsForest-made, StayDead-made, new-made, Gives-made, entries-made}
+use Rattle.pe_frames.proofs.Opened.{Steps, Makes, Makes-steps, each-row, sized-below, IsForest-made, StayDead-made, new-made, Gives-made, entries-made, IsSwept-made}
 
 if_each : {A : Type 0} (P : A → Type 0) (o : Option A) → ((x : A) → o ≡ Some x → P x) → IfSome o P
 if_each P None f = tt
@@ -158,3 +158,6 @@ module _ {D : Type 0} where
 
         pub Gives-below : Gives (forest_in s order) (forest_in t (order ++ h ∷ [])) h
         Gives-below = Gives-made s t h row.node makes-below order pages is
+
+        pub IsSwept-below : (dead : ℕ) → IsSwept s order dead → IsSwept t (order ++ h ∷ []) dead
+        IsSwept-below = IsSwept-made s t h row.node makes-below order pages is

@@ -11,7 +11,7 @@ use Rattle.pe_frames.specs.Order.{is_named}
 use Rattle.pe_frames.specs.Links.{SameMarks}
 use Rattle.pe_frames.specs.Kept.{kept, shown, entries_in, AreOnce, IsSized, IsForest}
 use Rattle.pe_frames.proofs.Nodes.{same_handle-Decides}
-use Rattle.pe_frames.proofs.Cuts.{IsCut, count-less}
+use Rattle.pe_frames.proofs.Cuts.{IsCut, count-less, length-entries, length-cut, Sweeps-none}
 
 some_same : {A : Type 0} {a b : A} → Some a ≡ Some b → a ≡ b
 some_same e = cc
@@ -83,6 +83,22 @@ module _ {D : Type 0} where
         by_test x true q = ap (λ c. c && true) (ap (λ j. same_handle j k) (q refl) ∙ other)
         by_test x false q = none (same_handle (top_of x) k)
 
+    -- the frames are so many fewer
+    all-less : length (entries_in (kept s order [])) ≡ length (filter stays (entries_in (kept s order []))) + length ks
+    all-less =
+        let less = count-less (kept s order []) is.nodes is.apart (λ x. true) stays ks leaves.once leaves.alive (λ x f. ap not (leaves.agree x f) ∙ twice (has_handle x.handle ks)) in
+        let old = all-pass (entries_in (kept s order [])) in
+        let new = all-pass (filter stays (entries_in (kept s order []))) in
+        omega (arith, less, old, new)
+      where
+        twice : (b : Bool) → not (not b) ≡ b
+        twice true = refl
+        twice false = refl
+
+        all-pass : (xs : List (Entry D)) → length (filter (λ x. true) xs) ≡ length xs
+        all-pass [] = refl
+        all-pass (x ∷ xs) = let rest = all-pass xs in omega (arith, rest)
+
     -- where no top frame leaves, the pages are as many as before
     pub pages-same : ((x : Entry D) → entry_of (entries_in (kept s order [])) x.handle ≡ Some x → has_handle x.handle ks ≡ true → is_top x ≡ false) → page_count (entries_in (kept s order [])) ≡ page_count (filter stays (entries_in (kept s order [])))
     pages-same low =
@@ -124,6 +140,13 @@ module _ {D : Type 0} where
         rooted = leaves.rooted;
         same = changes.same;
       }
+
+      -- the rows that are kept are so many fewer
+      pub length-left : length (kept s order []) ≡ length (kept t order []) + length ks
+      length-left =
+          let old = length-entries (kept s order []) in
+          let new = length-cut s t order pages is (λ k. has_handle k ks) stays IsCut-left order (Sweeps-none t order) in
+          omega (arith, old, new, all-less)
 
       -- the sizes of pages
       pub sized-left : (page : Option Handle) → ((k : Handle) (r : Row D) → (change k r).size ≡ cond (is_named page k) (r.size - length ks) r.size) → ((k : Handle) → has_handle k ks ≡ false → is_named page k ≡ same_handle top k)

@@ -1,5 +1,5 @@
 -- A frame that is navigated: it shows another document, and those below it go.
-use Rattle.std.proofs.Common.{◌≡◌, inl, inr, ℕ, ◌-◌, ◌≤◌, Bool, true, false, cond, ◌||◌, List, [], ◌∷◌, map, length, Option, None, Some, IsSome, is_some, refl, sym, ap, subst, ◌∙◌, arith, true≢false}
+use Rattle.std.proofs.Common.{◌≡◌, inl, inr, ℕ, ◌+◌, ◌-◌, ◌≤◌, Bool, true, false, cond, ◌||◌, List, [], ◌∷◌, map, length, Option, None, Some, IsSome, is_some, refl, sym, ap, subst, ◌∙◌, arith, true≢false}
 use Rattle.std.specs.Prelude.{◌==◌, filter, not, IfSome}
 use Rattle.std.specs.Option.{option_map}
 use Rattle.std.proofs.lemmas.Bool.Decides.{Decides-eqb}
@@ -12,18 +12,18 @@ use Rattle.pe_frames.specs.declared.node.Node.{Node}
 use Rattle.pe_frames.specs.Forest.{Forest, Entry, last_of, same_handle, has_handle, entry_of, parent_of, top_of, is_top, is_under, redone, IsDead, StayDead}
 use Rattle.pe_frames.specs.Order.{is_named, handles_under, docs_under, navigated}
 use Rattle.pe_frames.specs.Links.{links_by, young, siblings, at, smaller, renewed, doc_before, docs_at, SameMarks, Rewrites, Removes}
-use Rattle.pe_frames.specs.Kept.{kept, entries_in, standing_in, HasLinks, Sweeps, forest_in, IsForest}
+use Rattle.pe_frames.specs.Kept.{kept, entries_in, standing_in, HasLinks, Sweeps, IsSwept, forest_in, IsForest}
 use Rattle.pe_frames.proofs.Nodes.{same_handle-Decides, same_or_other, found-live}
 use Rattle.pe_frames.proofs.Pages.{not_same, top-found}
 use Rattle.pe_frames.proofs.Sizes.{TopRow-live}
 use Rattle.pe_frames.proofs.Writes.{Rewrites-one, SameMarks-then}
-use Rattle.pe_frames.proofs.Written.{entry_of-redone, young-redone, IsForest-written, forest-written}
+use Rattle.pe_frames.proofs.Written.{entry_of-redone, young-redone, IsForest-written, forest-written, length-written}
 use Rattle.pe_frames.proofs.Tree.{Each}
 use Rattle.pe_frames.proofs.Under.{tree-forest, handles-live}
 use Rattle.pe_frames.proofs.Cuts.{each-live, frame-of, IsForest-cut, entries-cut, StayDead-cut, IsDead-cut}
 use Rattle.pe_frames.proofs.Within.{goes-under, parent-stays, child-goes, top-goes, page-goes, young-stays, children-same, children-none}
 use Rattle.pe_frames.proofs.Unlinked.{at-keeps}
-use Rattle.pe_frames.proofs.Leaving.{Changes, stayed, Leaves, page-less, pages-same, IsCut-left, sized-left}
+use Rattle.pe_frames.proofs.Leaving.{Changes, stayed, Leaves, page-less, pages-same, IsCut-left, sized-left, length-left}
 use Rattle.pe_frames.proofs.Standings.{stands-at}
 use Rattle.pe_frames.proofs.Closed.{row-lives}
 use Rattle.pe_frames.proofs.Documents.{docs-same, docs-below}
@@ -338,6 +338,14 @@ module _ {D : Type 0} where
             shrunk-links : (b : Bool) (y : Row D) → HasLinks (filter (spares h) news) k y → HasLinks (filter (spares h) news) k (cond b (smaller (length below) y) y)
             shrunk-links true y has = has
             shrunk-links false y has = has
+
+        -- the dead handles, before the list is swept
+        pub dead-navigated : (dead : ℕ) → IsSwept s order dead → length order ≡ length (kept t order []) + (dead + n)
+        dead-navigated dead was =
+            let counted = was.counted in
+            let same = length-written h w s r found order pages is in
+            let fewer = length-left (with_value s h.slot (redoc w r)) order pages is-written below (spares h) (top_of leaves.entry) leaves-below t (λ k x. at (Some (top_of leaves.entry)) (smaller (length below)) k (at (Some h) childless k x)) changes in
+            omega (arith, counted, same, fewer, many)
 
         pub IsForest-navigated : IsForest t swept pages
         IsForest-navigated =

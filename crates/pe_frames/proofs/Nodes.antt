@@ -9,7 +9,7 @@ use Rattle.pe_arena.specs.Slots.{Slots}
 use Rattle.pe_frames.specs.declared.row.Row.{Row}
 use Rattle.pe_frames.specs.declared.node.Node.{Node}
 use Rattle.pe_frames.specs.Forest.{Entry, same_handle, has_handle, entry_of, node_in, node_of, parent_of, top_of}
-use Rattle.pe_frames.specs.Kept.{Kept, joined, kept, shown, node_at, entry_in, entries_in, AreNodes, forest_in, IsForest}
+use Rattle.pe_frames.specs.Kept.{Kept, joined, kept, shown, node_at, entry_in, entries_in, AreNodes, forest_in, IsForest, IsSwept}
 
 pub same_handle-Decides : (a b : Handle) → Decides (same_handle a b) (a ≡ b)
 same_handle-Decides a b =
@@ -129,3 +129,7 @@ module _ {D : Type 0} where
     wide = refl;
     first = refl;
   }
+
+  pub IsSwept-none : IsSwept nothing [] 0
+  unfolding kept
+  IsSwept-none = record { counted = omega arith; half = omega arith }

@@ -1,5 +1,5 @@
 -- The list of frames, through the making of a frame.
-use Rattle.std.proofs.Common.{◌≡◌, ◌≢◌, ◌⊎◌, inl, inr, ℕ, ◌+◌, ◌<◌, ◌≤◌, Bool, true, false, cond, ◌||◌, List, [], ◌∷◌, ◌++◌, map, length, get_or, Option, None, Some, IsSome, is_some, refl, sym, ap, subst, ◌∙◌, arith, true≢false}
+use Rattle.std.proofs.Common.{◌≡◌, ◌≢◌, ◌⊎◌, inl, inr, ℕ, ◌+◌, ◌<◌, ◌≤◌, Bool, true, false, cond, ◌||◌, List, [], ◌∷◌, ◌++◌, map, length, length-append, get_or, Option, None, Some, IsSome, is_some, refl, sym, ap, subst, ◌∙◌, arith, true≢false}
 use Rattle.std.proofs.Math.ListN.{get_or-map}
 use Rattle.pe_arena.specs.declared.handle.Handle.{Handle}
 use Rattle.pe_arena.specs.Slots.{Slot, Slots, live, mark, holding, IsNext, Updates}
@@ -8,7 +8,7 @@ use Rattle.std.specs.Option.{option_map}
 use Rattle.pe_frames.specs.declared.row.Row.{Row}
 use Rattle.pe_frames.specs.declared.node.Node.{Node}
 use Rattle.pe_frames.specs.Forest.{Entry, top_of, same_handle, has_handle, entry_of, node_in, mark_of, page_count, Gives, StayDead}
-use Rattle.pe_frames.specs.Kept.{Kept, joined, kept, entry_in, entries_in, shown, node_at, AreNodes, AreApart, IsSized, HasLinks, forest_in, IsForest}
+use Rattle.pe_frames.specs.Kept.{Kept, joined, kept, entry_in, entries_in, shown, node_at, AreNodes, AreApart, IsSized, HasLinks, forest_in, IsForest, IsSwept}
 use Rattle.pe_frames.specs.Links.{Rewrites}
 use Rattle.pe_frames.proofs.Writes.{different, mark-kept, slots-kept}
 use Rattle.pe_frames.proofs.Pages.{entry-absent, page-empty, page-more, page-same}
@@ -122,6 +122,15 @@ module _ {D : Type 0} where
       wide = makes.limit ∙ is.wide;
       first = makes.first ∙ is.first;
     }
+
+    -- its handle is listed
+    pub IsSwept-made : (dead : ℕ) → IsSwept s order dead → IsSwept t (order ++ h ∷ []) dead
+    IsSwept-made dead swept =
+        let long = length-append order (h ∷ []) in
+        let more = ap length kept-made in
+        let was = swept.counted in
+        let half = swept.half in
+        record { counted = omega (arith, long, more, was); half = omega (arith, long, half) }
 
     -- no live frame had the handle
     pub new-made : entry_of (forest_in s order).entries h ≡ None

@@ -8,7 +8,7 @@ use Rattle.pe_arena.specs.Slots.{Slot, Slots, live, mark, emptied, Updates}
 use Rattle.pe_frames.specs.declared.row.Row.{Row}
 use Rattle.pe_frames.specs.Forest.{same_handle, has_handle}
 use Rattle.pe_frames.specs.Links.{SameMarks, Removes, doc_before, docs_at}
-use Rattle.pe_frames.specs.Kept.{Kept, joined, shown, kept, Sweeps, AreOnce}
+use Rattle.pe_frames.specs.Kept.{Kept, joined, shown, kept, Sweeps, IsSwept, AreOnce}
 use Rattle.pe_frames.proofs.Nodes.{has-push, same_handle-Decides, same_or_other}
 use Rattle.pe_frames.proofs.Writes.{map-set_same, different, SameMarks-refl, SameMarks-then}
 
@@ -112,6 +112,25 @@ module _ {D : Type 0} where
           ap (λ o. kept s (cond (is_some o) (h ∷ filter (is_shown s) hs) (filter (is_shown s) hs)) xs) e
           ∙ rest (joined h (shown s h) xs)
 
+  -- as many frames are kept as handles are live
+  length-kept : (s : Slots (Row D)) (hs : List Handle) (xs : List (Kept D)) → length (kept s hs xs) ≡ length (filter (is_shown s) hs) + length xs
+  unfolding kept
+  length-kept s [] xs = omega arith
+  length-kept s (h ∷ hs) xs = by_row (live s h) refl (λ ys. length-kept s hs ys)
+    where
+      by_row : (o : Option (Row D)) → live s h ≡ o → ((ys : List (Kept D)) → length (kept s hs ys) ≡ length (filter (is_shown s) hs) + length ys)
+          → length (kept s hs (joined h (shown s h) xs)) ≡ length (cond (is_shown s h) (h ∷ filter (is_shown s) hs) (filter (is_shown s) hs)) + length xs
+      by_row None e rest =
+          let more = ap (λ (o : Option (Row D)). length (kept s hs (joined h (option_map (λ r. r.node) o) xs))) e in
+          let less = ap (λ (o : Option (Row D)). length (cond (is_some o) (h ∷ filter (is_shown s) hs) (filter (is_shown s) hs))) e in
+          let n = rest xs in
+          omega (arith, more, less, n)
+      by_row (Some r) e rest =
+          let more = ap (λ (o : Option (Row D)). length (kept s hs (joined h (option_map (λ r. r.node) o) xs))) e in
+          let less = ap (λ (o : Option (Row D)). length (cond (is_some o) (h ∷ filter (is_shown s) hs) (filter (is_shown s) hs))) e in
+          let n = rest (record { handle = h; node = r.node } ∷ xs) in
+          omega (arith, more, less, n)
+
   live_of : (o : Option (Row D)) → IsSome (option_map (λ r. r.node) o) → is_some o ≡ true
   live_of None p = absurd (true≢false (sym p))
   live_of (Some r) p = refl
@@ -122,6 +141,14 @@ module _ {D : Type 0} where
     listed = λ h p q. swept-listed (is_shown s) h (live_of (live s h) p) old q;
     known = λ h q. swept-known (is_shown s) h old q;
   })
+
+  -- no dead handle is listed then
+  pub IsSwept-filter : (s : Slots (Row D)) (old new : List Handle) → new ≡ filter (is_shown s) old → IsSwept s new 0
+  IsSwept-filter s old new e =
+      let n = ap length e in
+      let same = ap length (ap (λ hs. kept s hs []) e ∙ kept-swept s old []) in
+      let all = length-kept s old [] in
+      record { counted = omega (arith, n, same, all); half = omega arith }
 
 get-has : (ks : List Handle) (i : ℕ) (d : Handle) → i < length ks → has_handle (get_or ks i d) ks ≡ true
 get-has [] i d lt = absurd (omega (arith, lt))

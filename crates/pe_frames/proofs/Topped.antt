@@ -9,13 +9,13 @@ use Rattle.pe_frames.specs.declared.row.Row.{Row}
 use Rattle.pe_frames.specs.declared.node.Node.{Node}
 use Rattle.pe_frames.specs.Forest.{entry_of, Gives, StayDead, same_handle}
 use Rattle.pe_frames.specs.Links.{at, links_in}
-use Rattle.pe_frames.specs.Kept.{kept, node_at, entry_in, entries_in, HasLinks, forest_in, IsForest}
+use Rattle.pe_frames.specs.Kept.{kept, node_at, entry_in, entries_in, HasLinks, forest_in, IsForest, IsSwept}
 use Rattle.pe_frames.proofs.Nodes.{same_handle-Decides, kept-live}
 use Rattle.pe_frames.proofs.Pages.{not_same}
 use Rattle.pe_frames.proofs.Writes.{Rewrites-one}
 use Rattle.pe_frames.proofs.Kin.{childless}
 use Rattle.pe_frames.proofs.Linked.{links-top, links-alone}
-use Rattle.pe_frames.proofs.Opened.{Steps, Makes, Makes-steps, each-row, sized-top, IsForest-made, StayDead-made, new-made, Gives-made, entries-made}
+use Rattle.pe_frames.proofs.Opened.{Steps, Makes, Makes-steps, each-row, sized-top, IsForest-made, StayDead-made, new-made, Gives-made, entries-made, IsSwept-made}
 
 module _ {D : Type 0} where
   -- the row of the frame, which is the top one of its page
@@ -95,3 +95,6 @@ module _ {D : Type 0} where
 
     pub StayDead-top : StayDead (forest_in s order) (forest_in t (order ++ h ∷ []))
     StayDead-top = StayDead-made s t h (top_node h frame doc) makes-top order pages is
+
+    pub IsSwept-top : (dead : ℕ) → IsSwept s order dead → IsSwept t (order ++ h ∷ []) dead
+    IsSwept-top = IsSwept-made s t h (top_node h frame doc) makes-top order pages is

@@ -1,7 +1,8 @@
 -- The list of frames, through a write of a document.
-use Rattle.std.proofs.Common.{◌≡◌, inl, inr, ℕ, Bool, true, false, cond, List, [], ◌∷◌, map, length, length-set, Option, None, Some, IsSome, is_some, refl, sym, ap, subst, ◌∙◌, arith, true≢false}
+use Rattle.std.proofs.Common.{◌≡◌, inl, inr, ℕ, ◌+◌, Bool, true, false, cond, List, [], ◌∷◌, map, length, length-set, Option, None, Some, IsSome, is_some, refl, sym, ap, subst, ◌∙◌, arith, true≢false}
 use Rattle.std.specs.Prelude.{filter, unwrap_or}
 use Rattle.std.specs.Option.{option_map}
+use Rattle.std.proofs.lemmas.List.{length-map}
 use Rattle.pe_arena.specs.declared.handle.Handle.{Handle}
 use Rattle.pe_arena.specs.Slots.{Slot, Slots, live, mark, with_value, Updates}
 use Rattle.pe_arena.proofs.Live.{mark-with_value, write-updates}
@@ -9,7 +10,7 @@ use Rattle.pe_frames.specs.declared.row.Row.{Row}
 use Rattle.pe_frames.specs.declared.node.Node.{Node}
 use Rattle.pe_frames.specs.Forest.{Entry, path, same_handle, entry_of, node_in, top_of, is_top, page_size, page_count, redone, with_doc}
 use Rattle.pe_frames.specs.Order.{is_child}
-use Rattle.pe_frames.specs.Kept.{above_in, Kept, joined, kept, shown, node_at, entry_in, entries_in, AreNodes, AreApart, forest_in, IsForest}
+use Rattle.pe_frames.specs.Kept.{above_in, Kept, joined, kept, shown, node_at, entry_in, entries_in, AreNodes, AreApart, forest_in, IsForest, IsSwept}
 use Rattle.pe_frames.specs.Links.{links_by, young, links_in}
 use Rattle.pe_frames.proofs.Writes.{map-set_same}
 use Rattle.pe_frames.proofs.Nodes.{same_handle-Decides, same_or_other}
@@ -159,6 +160,13 @@ module _ {D : Type 0} (h : Handle) (w : D) where
     module _ (order : List Handle) (pages : ℕ) (is : IsForest s order pages) where
       entries-written : entries_in (kept (with_value s h.slot (record r { node = record r.node { doc = w } })) order []) ≡ map (redone h w) (entries_in (kept s order []))
       entries-written = ap entries_in (kept-redo order []) ∙ entries-redo (kept s order [])
+
+      -- as many frames are kept
+      pub length-written : length (kept (with_value s h.slot (record r { node = record r.node { doc = w } })) order []) ≡ length (kept s order [])
+      length-written = ap length (kept-redo order []) ∙ length-map (kept s order []) redo
+
+      pub IsSwept-written : (dead : ℕ) → IsSwept s order dead → IsSwept (with_value s h.slot (record r { node = record r.node { doc = w } })) order dead
+      IsSwept-written dead swept = record { counted = swept.counted ∙ ap (λ n. n + dead) (sym length-written); half = swept.half }
 
       pub IsForest-written : IsForest (with_value s h.slot (record r { node = record r.node { doc = w } })) order pages
       IsForest-written = record {

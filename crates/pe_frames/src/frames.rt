@@ -48,11 +48,11 @@ impl<D: Numbered> Model for Frames<D> {
 
     ghost coded = { forest_code D.code };
 
-    ghost use Rattle.pe_frames.specs.Kept.{forest_in, IsForest};
+    ghost use Rattle.pe_frames.specs.Kept.{forest_in, IsKept};
 
     ghost view = { λ f. forest_in f.rows f.order.items };
 
-    ghost invariant = { λ f. IsForest f.rows f.order.items f.pages };
+    ghost invariant = { λ f. IsKept f.rows f.order.items f.pages f.dead };
 }
 
 impl<D: Numbered> Frames<D> {

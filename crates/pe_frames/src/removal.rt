@@ -2,7 +2,7 @@
 ghost use Rattle.std.specs.Prelude.{◌≡◌, ◌+◌, ◌<◌, ◌≤◌, ◌↔◌, ◌++◌, [], ◌∷◌, IsSome, IfSome, IsTrue, length, vec_len, vec_capacity};
 ghost use Rattle.pe_arena.specs.Slots.{live, with_value};
 ghost use Rattle.pe_frames.specs.Links.{Rewrites, Removes, at, docs_at, unlinked, smaller, renewed};
-ghost use Rattle.pe_frames.specs.Kept.{Sweeps, AreOnce};
+ghost use Rattle.pe_frames.specs.Kept.{kept, AreOnce, IsSwept, Sweeps};
 
 use crate::row::{Links, Row, set_earlier, set_first, set_last, set_later, unless};
 use pe_arena::{Arena, Handle};
@@ -83,11 +83,14 @@ fn is_live<D>(rows: &Arena<Row<D>>, h: Handle) -> bool
     rows.get(h).is_some()
 }
 
-// Drops the dead handles of the list, once they are the greater half of it: `dead` counts them.
+// Counts so many more dead handles of the list, and drops all dead ones once they are more than half
+// of it.
 pub(crate) fn sweep<D>(rows: &Arena<Row<D>>, order: &mut Vec<Handle>, dead: &mut usize, more: usize)
-    ensures { Sweeps rows.now order.old.items order.new.items }
+    requires { length order.old.items ≡ length (kept rows.now order.old.items []) + (dead.old + more) }
+    ensures sweeps { Sweeps rows.now order.old.items order.new.items }
+    ensures swept { IsSwept rows.now order.new.items dead.new }
 {
-    *dead = dead.saturating_add(more);
+    *dead += more;
     if *dead > order.len() / 2 {
         order.retain(|h| is_live(rows, *h));
         *dead = 0;

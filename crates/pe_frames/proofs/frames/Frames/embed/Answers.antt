@@ -6,7 +6,7 @@ use Rattle.pe_frames.specs.Order.{head_of}
 use Rattle.pe_frames.specs.Links.{young}
 use Rattle.pe_frames.specs.Kept.{kept, entries_in, forest_in}
 use Rattle.pe_frames.proofs.Below.{below-of}
-use Rattle.pe_frames.proofs.Embedded.{Embeds, top-live, top-room, parent-live, last-live, makes-below, IsForest-below, entries-below, new-below, Gives-below, StayDead-below}
+use Rattle.pe_frames.proofs.Embedded.{Embeds, top-live, top-room, parent-live, last-live, makes-below, IsForest-below, IsSwept-below, entries-below, new-below, Gives-below, StayDead-below}
 use Rattle.pe_frames.proofs.frames.Frames.embed.Goals as goal
 
 pub grow_page-requires-clause-live : goal.grow_page-requires-clause-live
@@ -29,7 +29,7 @@ grow_page-requires-clause-live g c =
       node = c.below-node.ensures;
       links = c.behind-links.ensures;
     } in
-    top-live s mid order c.self.inside.pages c.self.invariant p place h c.args.frame c.args.doc row embeds
+    top-live s mid order c.self.inside.pages c.self.invariant.forest p place h c.args.frame c.args.doc row embeds
 
 pub grow_page-requires-clause-room : goal.grow_page-requires-clause-room
 grow_page-requires-clause-room g c =
@@ -51,7 +51,7 @@ grow_page-requires-clause-room g c =
       node = c.below-node.ensures;
       links = c.behind-links.ensures;
     } in
-    top-room s mid order c.self.inside.pages c.self.invariant p place h c.args.frame c.args.doc row embeds
+    top-room s mid order c.self.inside.pages c.self.invariant.forest p place h c.args.frame c.args.doc row embeds
 
 pub link-requires-clause-parent : goal.link-requires-clause-parent
 link-requires-clause-parent g c =
@@ -73,7 +73,7 @@ link-requires-clause-parent g c =
       node = c.below-node.ensures;
       links = c.behind-links.ensures;
     } in
-    parent-live s mid order c.self.inside.pages c.self.invariant p place h c.args.frame c.args.doc row embeds c.grow_page.new.rows c.grow_page.ensures
+    parent-live s mid order c.self.inside.pages c.self.invariant.forest p place h c.args.frame c.args.doc row embeds c.grow_page.new.rows c.grow_page.ensures
 
 pub link-requires-clause-last : goal.link-requires-clause-last
 link-requires-clause-last g c =
@@ -95,7 +95,7 @@ link-requires-clause-last g c =
       node = c.below-node.ensures;
       links = c.behind-links.ensures;
     } in
-    last-live s mid order c.self.inside.pages c.self.invariant p place h c.args.frame c.args.doc row embeds c.grow_page.new.rows c.grow_page.ensures
+    last-live s mid order c.self.inside.pages c.self.invariant.forest p place h c.args.frame c.args.doc row embeds c.grow_page.new.rows c.grow_page.ensures
 
 pub invariant_of-self-2 : goal.invariant_of-self-2
 invariant_of-self-2 g c =
@@ -118,7 +118,10 @@ invariant_of-self-2 g c =
       links = c.behind-links.ensures;
     } in
     rw (c.push_reserved.ensures.items, c.reserve.ensures.items)
-    (IsForest-below s mid order c.self.inside.pages c.self.invariant p place h c.args.frame c.args.doc row embeds c.grow_page.new.rows c.grow_page.ensures c.link.new.rows c.link.ensures)
+    (record {
+      forest = IsForest-below s mid order c.self.inside.pages c.self.invariant.forest p place h c.args.frame c.args.doc row embeds c.grow_page.new.rows c.grow_page.ensures c.link.new.rows c.link.ensures;
+      swept = IsSwept-below s mid order c.self.inside.pages c.self.invariant.forest p place h c.args.frame c.args.doc row embeds c.grow_page.new.rows c.grow_page.ensures c.link.new.rows c.link.ensures c.self.inside.dead c.self.invariant.swept;
+    })
 
 pub returns-clause-entries : goal.returns-clause-entries
 returns-clause-entries g c =
@@ -141,7 +144,7 @@ returns-clause-entries g c =
       links = c.behind-links.ensures;
     } in
     rw (c.push_reserved.ensures.items, c.reserve.ensures.items, ← c.self.view_is)
-    (entries-below s mid order c.self.inside.pages c.self.invariant p place h c.args.frame c.args.doc row embeds c.grow_page.new.rows c.grow_page.ensures c.link.new.rows c.link.ensures)
+    (entries-below s mid order c.self.inside.pages c.self.invariant.forest p place h c.args.frame c.args.doc row embeds c.grow_page.new.rows c.grow_page.ensures c.link.new.rows c.link.ensures)
 
 pub returns-clause-made : goal.returns-clause-made
 returns-clause-made g c =
@@ -163,7 +166,7 @@ returns-clause-made g c =
       node = c.below-node.ensures;
       links = c.behind-links.ensures;
     } in
-    let makes = makes-below s mid order c.self.inside.pages c.self.invariant p place h c.args.frame c.args.doc row embeds c.grow_page.new.rows c.grow_page.ensures c.link.new.rows c.link.ensures in
+    let makes = makes-below s mid order c.self.inside.pages c.self.invariant.forest p place h c.args.frame c.args.doc row embeds c.grow_page.new.rows c.grow_page.ensures c.link.new.rows c.link.ensures in
     rw (← c.self.view_is) makes.made
 
 pub returns-clause-new : goal.returns-clause-new
@@ -186,7 +189,7 @@ returns-clause-new g c =
       node = c.below-node.ensures;
       links = c.behind-links.ensures;
     } in
-    rw (← c.self.view_is) (new-below s mid order c.self.inside.pages c.self.invariant p place h c.args.frame c.args.doc row embeds c.grow_page.new.rows c.grow_page.ensures c.link.new.rows c.link.ensures)
+    rw (← c.self.view_is) (new-below s mid order c.self.inside.pages c.self.invariant.forest p place h c.args.frame c.args.doc row embeds c.grow_page.new.rows c.grow_page.ensures c.link.new.rows c.link.ensures)
 
 pub returns-clause-marks : goal.returns-clause-marks
 returns-clause-marks g c =
@@ -208,7 +211,7 @@ returns-clause-marks g c =
       node = c.below-node.ensures;
       links = c.behind-links.ensures;
     } in
-    let gives = Gives-below s mid order c.self.inside.pages c.self.invariant p place h c.args.frame c.args.doc row embeds c.grow_page.new.rows c.grow_page.ensures c.link.new.rows c.link.ensures in
+    let gives = Gives-below s mid order c.self.inside.pages c.self.invariant.forest p place h c.args.frame c.args.doc row embeds c.grow_page.new.rows c.grow_page.ensures c.link.new.rows c.link.ensures in
     rw (← c.self.view_is) (subst (λ hs. Gives (forest_in s order) (forest_in c.link.new.rows hs) h) (sym (c.push_reserved.ensures.items ∙ ap (λ hs. hs ++ h ∷ []) c.reserve.ensures.items)) gives)
 
 pub returns-clause-dead : goal.returns-clause-dead
@@ -231,5 +234,5 @@ returns-clause-dead g c =
       node = c.below-node.ensures;
       links = c.behind-links.ensures;
     } in
-    let stay = StayDead-below s mid order c.self.inside.pages c.self.invariant p place h c.args.frame c.args.doc row embeds c.grow_page.new.rows c.grow_page.ensures c.link.new.rows c.link.ensures in
+    let stay = StayDead-below s mid order c.self.inside.pages c.self.invariant.forest p place h c.args.frame c.args.doc row embeds c.grow_page.new.rows c.grow_page.ensures c.link.new.rows c.link.ensures in
     rw (← c.self.view_is) (subst (λ hs. StayDead (forest_in s order) (forest_in c.link.new.rows hs)) (sym (c.push_reserved.ensures.items ∙ ap (λ hs. hs ++ h ∷ []) c.reserve.ensures.items)) stay)

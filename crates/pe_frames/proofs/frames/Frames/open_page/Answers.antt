@@ -3,7 +3,7 @@ use Rattle.pe_frames.specs.declared.row.Row.{Row}
 use Rattle.pe_frames.specs.declared.node.Node.{Node}
 use Rattle.pe_frames.specs.Forest.{Gives, StayDead}
 use Rattle.pe_frames.specs.Kept.{forest_in}
-use Rattle.pe_frames.proofs.Topped.{Opens, IsForest-top, entries-top, new-top, Gives-top, StayDead-top}
+use Rattle.pe_frames.proofs.Topped.{Opens, IsForest-top, IsSwept-top, entries-top, new-top, Gives-top, StayDead-top}
 use Rattle.pe_frames.proofs.frames.Frames.open_page.Goals as goal
 
 pub invariant_of-self-2 : goal.invariant_of-self-2
@@ -24,9 +24,12 @@ invariant_of-self-2 g c =
       one = refl;
       written = c.name_top.ensures;
     } in
-    let few = c.self.invariant.few in
+    let few = c.self.invariant.forest.few in
     rw (c.push_reserved.ensures.items, c.reserve.ensures.items)
-    (IsForest-top s mid t order c.self.inside.pages c.self.invariant h c.args.frame c.args.doc row opens (omega arith))
+    (record {
+      forest = IsForest-top s mid t order c.self.inside.pages c.self.invariant.forest h c.args.frame c.args.doc row opens (omega arith);
+      swept = IsSwept-top s mid t order c.self.inside.pages c.self.invariant.forest h c.args.frame c.args.doc row opens c.self.inside.dead c.self.invariant.swept;
+    })
 
 pub returns-clause-entries : goal.returns-clause-entries
 returns-clause-entries g c =
@@ -47,7 +50,7 @@ returns-clause-entries g c =
       written = c.name_top.ensures;
     } in
     rw (c.push_reserved.ensures.items, c.reserve.ensures.items, ← c.self.view_is)
-    (entries-top s mid t order c.self.inside.pages c.self.invariant h c.args.frame c.args.doc row opens)
+    (entries-top s mid t order c.self.inside.pages c.self.invariant.forest h c.args.frame c.args.doc row opens)
 
 pub returns-clause-new : goal.returns-clause-new
 returns-clause-new g c =
@@ -67,7 +70,7 @@ returns-clause-new g c =
       one = refl;
       written = c.name_top.ensures;
     } in
-    rw (← c.self.view_is) (new-top s mid t order c.self.inside.pages c.self.invariant h c.args.frame c.args.doc row opens)
+    rw (← c.self.view_is) (new-top s mid t order c.self.inside.pages c.self.invariant.forest h c.args.frame c.args.doc row opens)
 
 pub returns-clause-marks : goal.returns-clause-marks
 returns-clause-marks g c =
@@ -87,7 +90,7 @@ returns-clause-marks g c =
       one = refl;
       written = c.name_top.ensures;
     } in
-    let gives = Gives-top s mid t order c.self.inside.pages c.self.invariant h c.args.frame c.args.doc row opens in
+    let gives = Gives-top s mid t order c.self.inside.pages c.self.invariant.forest h c.args.frame c.args.doc row opens in
     rw (← c.self.view_is) (subst (λ hs. Gives (forest_in s order) (forest_in t hs) h) (sym (c.push_reserved.ensures.items ∙ ap (λ hs. hs ++ h ∷ []) c.reserve.ensures.items)) gives)
 
 pub returns-clause-dead : goal.returns-clause-dead
@@ -108,5 +111,5 @@ returns-clause-dead g c =
       one = refl;
       written = c.name_top.ensures;
     } in
-    let stay = StayDead-top s mid t order c.self.inside.pages c.self.invariant h c.args.frame c.args.doc row opens in
+    let stay = StayDead-top s mid t order c.self.inside.pages c.self.invariant.forest h c.args.frame c.args.doc row opens in
     rw (← c.self.view_is) (subst (λ hs. StayDead (forest_in s order) (forest_in t hs)) (sym (c.push_reserved.ensures.items ∙ ap (λ hs. hs ++ h ∷ []) c.reserve.ensures.items)) stay)

@@ -10,7 +10,7 @@ pub returns-in_err-get : goal.returns-in_err-get
 returns-in_err-get g c =
     let k = c.in_ok-top.top in
     let top = subst (λ (f : Forest _). option_map top_of (entry_of f.entries c.args.h) ≡ Some k) (sym c.self.view_is) (sym c.top.ensures ∙ c.in_ok-top.was) in
-    let page = PageRow-live c.self.inside.rows c.self.inside.order.items c.self.inside.pages c.self.invariant c.args.h k top in
+    let page = PageRow-live c.self.inside.rows c.self.inside.order.items c.self.inside.pages c.self.invariant.forest c.args.h k top in
     let found = sym (ap option_copied c.in_err-get.was) ∙ c.get.ensures ∙ page.found in
     absurd cc
 
@@ -18,7 +18,7 @@ pub returns-clause-value : goal.returns-clause-value
 returns-clause-value g c =
     let k = c.in_ok-top.top in
     let top = subst (λ (f : Forest _). option_map top_of (entry_of f.entries c.args.h) ≡ Some k) (sym c.self.view_is) (sym c.top.ensures ∙ c.in_ok-top.was) in
-    let page = PageRow-live c.self.inside.rows c.self.inside.order.items c.self.inside.pages c.self.invariant c.args.h k top in
+    let page = PageRow-live c.self.inside.rows c.self.inside.order.items c.self.inside.pages c.self.invariant.forest c.args.h k top in
     let found = sym (ap option_copied c.in_ok-get.was) ∙ c.get.ensures ∙ page.found in
     ap (option_map (λ r. r.size)) found ∙ sym page.size ∙ ap (λ f. option_map (λ e. page_size f.entries (top_of e)) (entry_of f.entries c.args.h)) c.self.view_is
 
@@ -26,6 +26,6 @@ pub returns-clause-within : goal.returns-clause-within
 returns-clause-within g c =
     let k = c.in_ok-top.top in
     let top = subst (λ (f : Forest _). option_map top_of (entry_of f.entries c.args.h) ≡ Some k) (sym c.self.view_is) (sym c.top.ensures ∙ c.in_ok-top.was) in
-    let page = PageRow-live c.self.inside.rows c.self.inside.order.items c.self.inside.pages c.self.invariant c.args.h k top in
+    let page = PageRow-live c.self.inside.rows c.self.inside.order.items c.self.inside.pages c.self.invariant.forest c.args.h k top in
     let found = sym (ap option_copied c.in_ok-get.was) ∙ c.get.ensures ∙ page.found in
     subst (λ o. IfSome (option_map (λ r. r.size) o) (λ n. n ≤ FRAME_LIMIT)) (sym found) page.within
