@@ -5,7 +5,6 @@ use Rattle.std.specs.Option.{option_map}
 use Rattle.std.proofs.lemmas.Bool.Decides.{nat_tests}
 use Rattle.pe_arena.specs.declared.handle.Handle.{Handle}
 use Rattle.pe_arena.specs.Slots.{Slots, live, mark, Updates}
-use Rattle.pe_arena.proofs.Live.{unlive-next}
 use Rattle.pe_frames.specs.declared.row.Row.{Row}
 use Rattle.pe_frames.specs.declared.node.Node.{Node}
 use Rattle.pe_frames.specs.declared.node.Place.{Place}
@@ -95,12 +94,12 @@ module _ {D : Type 0} where
     pub room : row.size ≤ 255
 
   pub IsCounted-below : (s mid : Slots (Row D)) (order : List Handle) (pages : ℕ) (is : IsForest s order pages) (p : Handle) (place : Place) → IsBelow (entries_in (kept s order [])) p place → page_size (entries_in (kept s order [])) place.top ≢ 256
-      → (h : Handle) (row : Row D) → h.generation ≡ mark s h.slot → Updates s mid h (Some row) → IsCounted s mid (entries_in (kept s order [])) h place.top
-  IsCounted-below s mid order pages is p place below room h row fresh up =
+      → (h : Handle) (row : Row D) → live s h ≡ None → Updates s mid h (Some row) → IsCounted s mid (entries_in (kept s order [])) h place.top
+  IsCounted-below s mid order pages is p place below room h row new up =
       let top = TopRow-live s order pages is p below.entry below.found in
       let same : place.top ≡ top_of below.entry = ap (λ x. x.top) below.is in
       let before : live s place.top ≡ Some top.row = ap (live s) same ∙ top.found in
-      let apart : place.top ≢ h = (λ q. true≢false (sym (ap is_some before) ∙ ap is_some (ap (live s) q ∙ unlive-next s h fresh))) in
+      let apart : place.top ≢ h = (λ q. true≢false (sym (ap is_some before) ∙ ap is_some (ap (live s) q ∙ new))) in
       let size = top.sized.size in
       let within = top.sized.within in
       let at = ap (page_size (entries_in (kept s order []))) same in

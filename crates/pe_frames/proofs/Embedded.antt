@@ -3,8 +3,7 @@ use Rattle.std.proofs.Common.{◌≡◌, ◌≢◌, ℕ, ◌+◌, ◌≤◌, Boo
 use Rattle.std.specs.Prelude.{IfSome}
 use Rattle.std.specs.Option.{option_map}
 use Rattle.pe_arena.specs.declared.handle.Handle.{Handle}
-use Rattle.pe_arena.specs.Slots.{Slots, live, mark, holding, with_value, IsNext, Updates}
-use Rattle.pe_arena.proofs.Live.{unlive-next}
+use Rattle.pe_arena.specs.Slots.{Slots, live, mark, holding, with_value, IsGiven, Updates}
 use Rattle.pe_frames.specs.declared.row.Row.{Row}
 use Rattle.pe_frames.specs.declared.node.Node.{Node}
 use Rattle.pe_frames.specs.declared.node.Place.{Place}
@@ -30,7 +29,8 @@ module _ {D : Type 0} where
     pub below : IsBelow (entries_in (kept s order [])) p place
     pub room : page_size (entries_in (kept s order [])) place.top ≢ 256
     pub deep : place.depth ≤ 64
-    pub next : IsNext s h.slot
+    pub new : live s h ≡ None
+    pub given : IsGiven s mid h
     pub fresh : h.generation ≡ mark s h.slot
     pub slots : mid ≡ holding s h.slot row
     pub taken : Updates s mid h (Some row)
@@ -43,7 +43,7 @@ module _ {D : Type 0} where
 
   module _ (s mid : Slots (Row D)) (order : List Handle) (pages : ℕ) (is : IsForest s order pages) (p : Handle) (place : Place) (h : Handle) (frame : ℕ) (doc : D) (row : Row D) (embeds : Embeds s mid order p place h frame doc row) where
     counted : IsCounted s mid (entries_in (kept s order [])) h place.top
-    counted = IsCounted-below s mid order pages is p place embeds.below embeds.room h row embeds.fresh embeds.taken
+    counted = IsCounted-below s mid order pages is p place embeds.below embeds.room h row embeds.new embeds.taken
 
     pub top-live : IsSome (live mid place.top)
     top-live = ap is_some counted.found
@@ -52,20 +52,20 @@ module _ {D : Type 0} where
     top-room = room_is (live mid place.top) counted.row counted.found counted.room
 
     unseen : node_at (kept s order []) h ≡ None
-    unseen = kept-live s h order (is.listed h) ∙ ap (option_map (λ r. r.node)) (unlive-next s h embeds.fresh)
+    unseen = kept-live s h order (is.listed h) ∙ ap (option_map (λ r. r.node)) embeds.new
 
     last-is : place.last ≡ head_of (young (entries_in (kept s order [])) p)
     last-is = ap (λ x. x.last) embeds.below.is
 
-    module _ (large : Slots (Row D)) (written : IfSome (live mid place.top) (λ r. large ≡ with_value mid place.top.slot (record r { size = r.size + 1 }))) where
+    module _ (large : Slots (Row D)) (alone : (r : Row D) → Updates mid (with_value mid place.top.slot r) place.top (Some r)) (written : IfSome (live mid place.top) (λ r. large ≡ with_value mid place.top.slot (record r { size = r.size + 1 }))) where
       growing : Rewrites mid large (at (Some place.top) grown)
-      growing = Rewrites-one mid large place.top grown top-live written
+      growing = Rewrites-one mid large place.top grown top-live alone written
 
       live-still : (k : Handle) → IsSome (live s k) → IsSome (live large k)
       live-still k l = still-live mid large (at (Some place.top) grown) growing k (subst IsSome (sym (embeds.taken.others k other)) l)
         where
           other : k ≡ h → ⊥
-          other e = true≢false (sym l ∙ ap is_some (ap (live s) e ∙ unlive-next s h embeds.fresh))
+          other e = true≢false (sym l ∙ ap is_some (ap (live s) e ∙ embeds.new))
 
       pub parent-live : IsSome (live large p)
       parent-live = live-still p (some_row (live s p) (subst IsSome (sym (found-live s order p is.listed is.nodes ∙ ap (option_map node_in) embeds.below.found)) refl))
@@ -77,7 +77,8 @@ module _ {D : Type 0} where
       module _ (t : Slots (Row D)) (link : Rewrites large t (linked p place.last h)) where
         steps : Steps s mid t h row (λ k r. linked p place.last h k (at (Some place.top) grown k r))
         steps = record {
-          next = embeds.next;
+          new = embeds.new;
+          given = embeds.given;
           fresh = embeds.fresh;
           slots = embeds.slots;
           taken = embeds.taken;

@@ -4,7 +4,7 @@ use Rattle.std.specs.Prelude.{◌==◌, filter, not, IfSome}
 use Rattle.std.specs.Option.{option_map}
 use Rattle.std.proofs.lemmas.Bool.Decides.{Decides-eqb}
 use Rattle.pe_arena.specs.declared.handle.Handle.{Handle}
-use Rattle.pe_arena.specs.Slots.{Slots, live, with_value}
+use Rattle.pe_arena.specs.Slots.{Slots, live, with_value, Updates}
 use Rattle.pe_frames.specs.declared.row.Row.{Row}
 use Rattle.pe_frames.specs.declared.row.Links.{Links}
 use Rattle.pe_frames.specs.declared.row.Standing.{Standing}
@@ -103,7 +103,7 @@ module _ {D : Type 0} where
       let at = stands-at (entries_in (kept s order [])) h o here some (subst (λ (g : Forest D). o ≡ option_map (standing_in g.entries h) (entry_of g.entries h)) (sym view) value) in
       row-lives s order pages is h (ap is_some at.found)
 
-  module _ (s : Slots (Row D)) (order : List Handle) (pages : ℕ) (is : IsForest s order pages) (h : Handle) (here : Standing) (below : List Handle) (leaves : LeavesAt s order h here below) (w : D) (r : Row D) (found : live s h ≡ Some r) where
+  module _ (s : Slots (Row D)) (order : List Handle) (pages : ℕ) (is : IsForest s order pages) (h : Handle) (here : Standing) (below : List Handle) (leaves : LeavesAt s order h here below) (w : D) (r : Row D) (found : live s h ≡ Some r) (alone : (x : Row D) → Updates s (with_value s h.slot x) h (Some x)) where
     -- the frames that were, and those with the document
     abbrev olds : List (Entry D)
     olds = entries_in (kept s order [])
@@ -112,7 +112,7 @@ module _ {D : Type 0} where
     news = entries_in (kept (with_value s h.slot (redoc w r)) order [])
 
     redone-news : news ≡ map (redone h w) olds
-    redone-news = ap (λ (f : Forest D). f.entries) (forest-written h w s r found order pages is)
+    redone-news = ap (λ (f : Forest D). f.entries) (forest-written h w s r found alone order pages is)
 
     was : (k : Handle) (y : Entry D) → entry_of news k ≡ Some y → WasFrame olds h w k y
     was k y f = was-frame olds h w k y (sym (ap (λ es. entry_of es k) redone-news) ∙ f)
@@ -165,7 +165,7 @@ module _ {D : Type 0} where
     }
 
     is-written : IsForest (with_value s h.slot (redoc w r)) order pages
-    is-written = IsForest-written h w s r found order pages is
+    is-written = IsForest-written h w s r found alone order pages is
 
     each-spared : Each (λ x. spares h x ≡ not (has_handle x.handle below)) news
     each-spared = each-live (λ x. spares h x ≡ not (has_handle x.handle below)) (kept (with_value s h.slot (redoc w r)) order []) is-written.nodes is-written.apart leaves-below.agree
@@ -235,10 +235,10 @@ module _ {D : Type 0} where
     -- the steps of the code
     module _ (one two : Slots (Row D)) (renew : IfSome (live s h) (λ x. one ≡ with_value s h.slot (renewed w x))) (emptied : Removes one two below) where
       writes : Rewrites s (with_value s h.slot (redoc w r)) (at (Some h) (redoc w))
-      writes = Rewrites-one s (with_value s h.slot (redoc w r)) h (redoc w) (ap is_some found) (subst (λ o. IfSome o (λ x. with_value s h.slot (redoc w r) ≡ with_value s h.slot (redoc w x))) (sym found) refl)
+      writes = Rewrites-one s (with_value s h.slot (redoc w r)) h (redoc w) (ap is_some found) alone (subst (λ o. IfSome o (λ x. with_value s h.slot (redoc w r) ≡ with_value s h.slot (redoc w x))) (sym found) refl)
 
       renews : Rewrites s one (at (Some h) (renewed w))
-      renews = Rewrites-one s one h (renewed w) (ap is_some found) renew
+      renews = Rewrites-one s one h (renewed w) (ap is_some found) alone renew
 
       clears : Rewrites (with_value s h.slot (redoc w r)) one (at (Some h) childless)
       clears = record {
@@ -343,7 +343,7 @@ module _ {D : Type 0} where
         pub dead-navigated : (dead : ℕ) → IsSwept s order dead → length order ≡ length (kept t order []) + (dead + n)
         dead-navigated dead was =
             let counted = was.counted in
-            let same = length-written h w s r found order pages is in
+            let same = length-written h w s r found alone order pages is in
             let fewer = length-left (with_value s h.slot (redoc w r)) order pages is-written below (spares h) (top_of leaves.entry) leaves-below t (λ k x. at (Some (top_of leaves.entry)) (smaller (length below)) k (at (Some h) childless k x)) changes in
             omega (arith, counted, same, fewer, many)
 
@@ -376,7 +376,7 @@ module _ {D : Type 0} where
             StayDead-cut (with_value s h.slot (redoc w r)) t order pages is-written (λ j. has_handle j below) (spares h)
             (IsCut-left (with_value s h.slot (redoc w r)) order pages is-written below (spares h) (top_of leaves.entry) leaves-below t (λ j x. at (Some (top_of leaves.entry)) (smaller (length below)) j (at (Some h) childless j x)) changes)
             swept sweeps k
-            (subst (λ (f : Forest D). IsDead f k) (sym (forest-written h w s r found order pages is))
+            (subst (λ (f : Forest D). IsDead f k) (sym (forest-written h w s r found alone order pages is))
             (record { given = dead.given; gone = entry_of-redone h w olds k ∙ ap (option_map (redone h w)) dead.gone }))
 
         pub IsDead-navigated : (k : Handle) → IsSome (entry_of (forest_in s order).entries k) → entry_of (forest_in t swept).entries k ≡ None → IsDead (forest_in t swept) k

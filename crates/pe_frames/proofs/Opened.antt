@@ -2,8 +2,7 @@
 use Rattle.std.proofs.Common.{◌≡◌, ◌≢◌, ◌⊎◌, inl, inr, ℕ, ◌+◌, ◌<◌, ◌≤◌, Bool, true, false, cond, ◌||◌, List, [], ◌∷◌, ◌++◌, map, length, length-append, get_or, Option, None, Some, IsSome, is_some, refl, sym, ap, subst, ◌∙◌, arith, true≢false}
 use Rattle.std.proofs.Math.ListN.{get_or-map}
 use Rattle.pe_arena.specs.declared.handle.Handle.{Handle}
-use Rattle.pe_arena.specs.Slots.{Slot, Slots, live, mark, holding, IsNext, Updates}
-use Rattle.pe_arena.proofs.Live.{unlive-next, mark-holding, mark-other-holding, mark-le-holding, length-holding}
+use Rattle.pe_arena.specs.Slots.{Slot, Slots, live, mark, holding, IsGiven, Updates}
 use Rattle.std.specs.Option.{option_map}
 use Rattle.pe_frames.specs.declared.row.Row.{Row}
 use Rattle.pe_frames.specs.declared.node.Node.{Node}
@@ -162,7 +161,8 @@ module _ {D : Type 0} where
 
   -- a row was taken in under this handle, and then rows were written, whose nodes stay
   pub record Steps (s mid t : Slots (Row D)) (h : Handle) (row : Row D) (change : Handle → Row D → Row D) : Type 0 where
-    pub next : IsNext s h.slot
+    pub new : live s h ≡ None
+    pub given : IsGiven s mid h
     pub fresh : h.generation ≡ mark s h.slot
     pub slots : mid ≡ holding s h.slot row
     pub taken : Updates s mid h (Some row)
@@ -195,20 +195,17 @@ module _ {D : Type 0} where
     mark-le : (j : ℕ) → mark s j ≤ mark t j
     mark-le j =
         let e = mark-then j in
-        let f = ap (λ x. mark x j) steps.slots in
-        let l = mark-le-holding s h.slot row steps.next j in
+        let l = steps.given.rising j in
         omega arith
 
     mark-here : mark t h.slot ≡ h.generation + 1
     mark-here =
         let e = mark-then h.slot in
-        let f = ap (λ x. mark x h.slot) steps.slots in
-        let l = mark-holding s h.slot row steps.next in
-        let g = steps.fresh in
+        let l = steps.given.last in
         omega arith
 
     mark-others : (j : ℕ) → j ≢ h.slot → mark t j ≡ mark s j
-    mark-others j ne = mark-then j ∙ ap (λ x. mark x j) steps.slots ∙ mark-other-holding s h.slot row steps.next j ne
+    mark-others j ne = mark-then j ∙ steps.given.others j ne
 
     made-then : t.made ≡ s.made + 1
     made-then = steps.then.same.made ∙ ap (λ x. x.made) steps.slots
@@ -216,13 +213,12 @@ module _ {D : Type 0} where
     counted-then : length t.slots + s.made ≤ length s.slots + t.made
     counted-then =
         let e = slots-kept mid t steps.then.same in
-        let f = ap (λ x. length x.slots) steps.slots in
-        let l = length-holding s h.slot row steps.next in
+        let l = steps.given.most in
         let d = made-then in
         omega arith
 
     unseen-before : shown s h ≡ None
-    unseen-before = ap (option_map (λ x. x.node)) (unlive-next s h steps.fresh)
+    unseen-before = ap (option_map (λ x. x.node)) steps.new
 
     shown-there : (j : Handle) → j ≢ h → shown t j ≡ shown s j
     shown-there j ne = ap (option_map (λ x. x.node)) (row-there j ne) ∙ same-nodes (live s j)

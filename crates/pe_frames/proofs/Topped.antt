@@ -3,8 +3,7 @@ use Rattle.std.proofs.Common.{◌≡◌, ◌≢◌, ℕ, ◌+◌, ◌≤◌, con
 use Rattle.std.specs.Prelude.{IfSome}
 use Rattle.std.specs.Option.{option_map}
 use Rattle.pe_arena.specs.declared.handle.Handle.{Handle}
-use Rattle.pe_arena.specs.Slots.{Slots, live, mark, holding, with_value, IsNext, Updates}
-use Rattle.pe_arena.proofs.Live.{unlive-next}
+use Rattle.pe_arena.specs.Slots.{Slots, live, mark, holding, with_value, IsGiven, Updates}
 use Rattle.pe_frames.specs.declared.row.Row.{Row}
 use Rattle.pe_frames.specs.declared.node.Node.{Node}
 use Rattle.pe_frames.specs.Forest.{entry_of, Gives, StayDead, same_handle}
@@ -28,13 +27,15 @@ module _ {D : Type 0} where
 
   -- a row was taken in for a top frame, and names it then
   pub record Opens (s mid t : Slots (Row D)) (h : Handle) (frame : ℕ) (doc : D) (row : Row D) : Type 0 where
-    pub next : IsNext s h.slot
+    pub new : live s h ≡ None
+    pub given : IsGiven s mid h
     pub fresh : h.generation ≡ mark s h.slot
     pub slots : mid ≡ holding s h.slot row
     pub taken : Updates s mid h (Some row)
     pub node : (topped h row).node ≡ top_node h frame doc
     pub links : row.links ≡ record { first = None; last = None; earlier = None; later = None }
     pub one : row.size ≡ 1
+    pub alone : (r : Row D) → Updates mid (with_value mid h.slot r) h (Some r)
     pub written : IfSome (live mid h) (λ r. t ≡ with_value mid h.slot (record r { node = record r.node { top = h } }))
 
   module _ (s mid t : Slots (Row D)) (order : List Handle) (pages : ℕ) (is : IsForest s order pages) (h : Handle) (frame : ℕ) (doc : D) (row : Row D) (opens : Opens s mid t h frame doc row) where
@@ -46,11 +47,12 @@ module _ {D : Type 0} where
 
     steps : Steps s mid t h row (at (Some h) (topped h))
     steps = record {
-      next = opens.next;
+      new = opens.new;
+      given = opens.given;
       fresh = opens.fresh;
       slots = opens.slots;
       taken = opens.taken;
-      then = Rewrites-one mid t h (topped h) (ap is_some opens.taken.changed) opens.written;
+      then = Rewrites-one mid t h (topped h) (ap is_some opens.taken.changed) opens.alone opens.written;
       keeps = λ k r ne. ap (λ (x : Row D). x.node) (other k r ne);
     }
 
@@ -61,7 +63,7 @@ module _ {D : Type 0} where
     makes-top = subst (λ (n : Node D). Makes s t h n) node-now (Makes-steps s mid t h row (at (Some h) (topped h)) steps)
 
     unseen : node_at (kept s order []) h ≡ None
-    unseen = kept-live s h order (is.listed h) ∙ ap (option_map (λ r. r.node)) (unlive-next s h opens.fresh)
+    unseen = kept-live s h order (is.listed h) ∙ ap (option_map (λ r. r.node)) opens.new
 
     links-here : HasLinks (entry_in (entries_in (kept s order [])) (record { handle = h; node = top_node h frame doc }) ∷ entries_in (kept s order [])) h (at (Some h) (topped h) h row)
     links-here =

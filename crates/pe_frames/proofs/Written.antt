@@ -5,14 +5,13 @@ use Rattle.std.specs.Option.{option_map}
 use Rattle.std.proofs.lemmas.List.{length-map}
 use Rattle.pe_arena.specs.declared.handle.Handle.{Handle}
 use Rattle.pe_arena.specs.Slots.{Slot, Slots, live, mark, with_value, Updates}
-use Rattle.pe_arena.proofs.Live.{mark-with_value, write-updates}
 use Rattle.pe_frames.specs.declared.row.Row.{Row}
 use Rattle.pe_frames.specs.declared.node.Node.{Node}
 use Rattle.pe_frames.specs.Forest.{Entry, path, same_handle, entry_of, node_in, top_of, is_top, page_size, page_count, redone, with_doc}
 use Rattle.pe_frames.specs.Order.{is_child}
 use Rattle.pe_frames.specs.Kept.{above_in, Kept, joined, kept, shown, node_at, entry_in, entries_in, AreNodes, AreApart, forest_in, IsForest, IsSwept}
 use Rattle.pe_frames.specs.Links.{links_by, young, links_in}
-use Rattle.pe_frames.proofs.Writes.{map-set_same}
+use Rattle.pe_frames.proofs.Writes.{map-set_same, mark-kept, SameMarks-write}
 use Rattle.pe_frames.proofs.Nodes.{same_handle-Decides, same_or_other}
 
 module _ {D : Type 0} (h : Handle) (w : D) where
@@ -100,12 +99,12 @@ module _ {D : Type 0} (h : Handle) (w : D) where
   links-redone es k (Some p) = ap (λ ks. links_by ks (young (map (redone h w) es) p) k) (young-redone es k) ∙ ap (λ ks. links_by (young es k) ks k) (young-redone es p)
 
   -- the row of the named frame was written
-  module _ (s : Slots (Row D)) (r : Row D) (found : live s h ≡ Some r) where
+  module _ (s : Slots (Row D)) (r : Row D) (found : live s h ≡ Some r) (alone : (x : Row D) → Updates s (with_value s h.slot x) h (Some x)) where
     after : Row D
     after = record r { node = record r.node { doc = w } }
 
     up : Updates s (with_value s h.slot (record r { node = record r.node { doc = w } })) h (Some (record r { node = record r.node { doc = w } }))
-    up = write-updates s h (record r { node = record r.node { doc = w } }) (ap is_some found)
+    up = alone (record r { node = record r.node { doc = w } })
 
     shown-redo : (k : Handle) → shown (with_value s h.slot (record r { node = record r.node { doc = w } })) k ≡ option_map (renode k) (shown s k)
     shown-redo k = elim (same_or_other k h) as (λ _. shown (with_value s h.slot (record r { node = record r.node { doc = w } })) k ≡ option_map (renode k) (shown s k)) [
@@ -171,7 +170,7 @@ module _ {D : Type 0} (h : Handle) (w : D) where
       pub IsForest-written : IsForest (with_value s h.slot (record r { node = record r.node { doc = w } })) order pages
       IsForest-written = record {
         listed = λ k p. is.listed k (still_shown (shown s k) k (subst IsSome (shown-redo k) p));
-        given = λ k e. (let a = is.given k e in let b = mark-with_value s h (record r { node = record r.node { doc = w } }) (ap is_some found) k.slot in omega arith);
+        given = λ k e. (let a = is.given k e in let b = mark-kept s (with_value s h.slot (record r { node = record r.node { doc = w } })) (SameMarks-write s h.slot (record r { node = record r.node { doc = w } })) k.slot in omega arith);
         nodes = subst AreNodes (sym (kept-redo order [])) (nodes-redo (kept s order []) is.nodes);
         apart = subst AreApart (sym (kept-redo order [])) (apart-redo (kept s order []) is.apart);
         sized = λ k x e p.

@@ -1,6 +1,6 @@
 //! Removal of rows.
-ghost use Rattle.std.specs.Prelude.{◌≡◌, ◌+◌, ◌<◌, ◌≤◌, ◌↔◌, ◌++◌, [], ◌∷◌, IsSome, IfSome, IsTrue, length, vec_len, vec_capacity};
-ghost use Rattle.pe_arena.specs.Slots.{live, with_value};
+ghost use Rattle.std.specs.Prelude.{◌≡◌, Some, ◌+◌, ◌<◌, ◌≤◌, ◌↔◌, ◌++◌, [], ◌∷◌, IsSome, IfSome, IsTrue, length, vec_len, vec_capacity};
+ghost use Rattle.pe_arena.specs.Slots.{live, with_value, Updates};
 ghost use Rattle.pe_frames.specs.Links.{Rewrites, Removes, at, docs_at, unlinked, smaller, renewed};
 ghost use Rattle.pe_frames.specs.Kept.{kept, AreOnce, IsSwept, Sweeps};
 
@@ -37,6 +37,7 @@ pub(crate) fn take_all<D: Drop>(rows: &mut Arena<Row<D>>, handles: &[Handle], do
 pub(crate) fn renew<D>(rows: &mut Arena<Row<D>>, h: Handle, doc: D) -> D
     requires { IsSome (live rows.old h) }
     ensures rows { IfSome (live rows.old h) (λ r. rows.new ≡ with_value rows.old h.slot (renewed doc r)) }
+    ensures alone { (r : Row D) → Updates rows.old (with_value rows.old h.slot r) h (Some r) }
     ensures old { IfSome (live rows.old h) (λ r. result ≡ r.node.doc) }
 {
     let row = rows.get_mut(h).unwrap();
@@ -47,7 +48,8 @@ pub(crate) fn renew<D>(rows: &mut Arena<Row<D>>, h: Handle, doc: D) -> D
 fn shrink_at<D>(rows: &mut Arena<Row<D>>, top: Handle, count: u32)
     requires live { IsSome (live rows.old top) }
     requires size { IfSome (live rows.old top) (λ r. count ≤ r.size) }
-    ensures { IfSome (live rows.old top) (λ r. rows.new ≡ with_value rows.old top.slot (smaller count r)) }
+    ensures written { IfSome (live rows.old top) (λ r. rows.new ≡ with_value rows.old top.slot (smaller count r)) }
+    ensures alone { (r : Row D) → Updates rows.old (with_value rows.old top.slot r) top (Some r) }
 {
     let row = rows.get_mut(top).unwrap();
     row.size -= count;

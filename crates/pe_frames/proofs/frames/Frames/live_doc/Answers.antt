@@ -32,8 +32,8 @@ pub invariant_of-self-lent : goal.invariant_of-self-lent
 invariant_of-self-lent g c = λ w.
     let found = sym c.get_mut.ensures.value ∙ ap option_copied_mut c.unwrap-row.ensures in
     record {
-      forest = IsForest-written c.args.h w c.self.inside.rows c.unwrap-row.result.now found c.self.inside.order.items c.self.inside.pages c.self.invariant.forest;
-      swept = IsSwept-written c.args.h w c.self.inside.rows c.unwrap-row.result.now found c.self.inside.order.items c.self.inside.pages c.self.invariant.forest c.self.inside.dead c.self.invariant.swept;
+      forest = IsForest-written c.args.h w c.self.inside.rows c.unwrap-row.result.now found (λ x. c.get_mut.ensures.alone x (ap is_some found)) c.self.inside.order.items c.self.inside.pages c.self.invariant.forest;
+      swept = IsSwept-written c.args.h w c.self.inside.rows c.unwrap-row.result.now found (λ x. c.get_mut.ensures.alone x (ap is_some found)) c.self.inside.order.items c.self.inside.pages c.self.invariant.forest c.self.inside.dead c.self.invariant.swept;
     }
 
 pub returns : goal.returns
@@ -41,7 +41,7 @@ returns g c =
     let s = c.self.inside.rows in
     let found = sym c.get_mut.ensures.value ∙ ap option_copied_mut c.unwrap-row.ensures in
     let shown = found-live s c.self.inside.order.items c.args.h c.self.invariant.forest.listed c.self.invariant.forest.nodes in (
-      (refl, λ w. forest-written c.args.h w s c.unwrap-row.result.now found c.self.inside.order.items c.self.inside.pages c.self.invariant.forest ∙ ap (λ f. with_doc f c.args.h w) c.self.view_is),
+      (refl, λ w. forest-written c.args.h w s c.unwrap-row.result.now found (λ x. c.get_mut.ensures.alone x (ap is_some found)) c.self.inside.order.items c.self.inside.pages c.self.invariant.forest ∙ ap (λ f. with_doc f c.args.h w) c.self.view_is),
       record {
         lends = tt;
         value =

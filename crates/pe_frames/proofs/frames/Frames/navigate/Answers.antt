@@ -58,7 +58,7 @@ shrink_page-requires-clause-live g c =
     let below = c.deref.result.now in
     let at = leaves-at s order c.args.self.now c.self.view_is h c.standing.result here c.in-Some.is c.standing.ensures.value below c.in-Ok.leaving.0.items c.in-Ok.ensures.handles c.deref.ensures.value in
     let row = row-at s order pages is h (ap is_some at.found) in
-    top-lives s order pages is h here below at c.args.doc row.row row.found c.renew.new.rows c.take_all.new.rows c.renew.ensures.rows c.take_all.ensures.rows
+    top-lives s order pages is h here below at c.args.doc row.row row.found c.renew.ensures.alone c.renew.new.rows c.take_all.new.rows c.renew.ensures.rows c.take_all.ensures.rows
     (Some here.top) refl
 
 pub shrink_page-requires-clause-size : goal.shrink_page-requires-clause-size
@@ -74,7 +74,7 @@ shrink_page-requires-clause-size g c =
     let row = row-at s order pages is h (ap is_some at.found) in
     let len = c.len.ensures in
     let same = c.deref.ensures.len in
-    top-large s order pages is h here below at c.args.doc row.row row.found c.renew.new.rows c.take_all.new.rows c.renew.ensures.rows c.take_all.ensures.rows
+    top-large s order pages is h here below at c.args.doc row.row row.found c.renew.ensures.alone c.renew.new.rows c.take_all.new.rows c.renew.ensures.rows c.take_all.ensures.rows
     (Some here.top) refl c.len.result (omega (arith, len, same))
 
 pub invariant_of-self : goal.invariant_of-self
@@ -92,7 +92,7 @@ invariant_of-self g c =
     let same = c.deref.ensures.len in
     record {
       forest =
-          IsForest-navigated s order pages is h here below at c.args.doc row.row row.found c.renew.new.rows c.take_all.new.rows c.renew.ensures.rows c.take_all.ensures.rows
+          IsForest-navigated s order pages is h here below at c.args.doc row.row row.found c.renew.ensures.alone c.renew.new.rows c.take_all.new.rows c.renew.ensures.rows c.take_all.ensures.rows
           (Some here.top) refl c.len.result (omega (arith, len, same)) c.shrink_page.new.rows c.shrink_page.ensures c.sweep.new.order.items c.sweep.ensures.sweeps;
       swept = c.sweep.ensures.swept;
     }
@@ -111,7 +111,7 @@ sweep-requires g c =
     let len = c.len.ensures in
     let again = c.len-2.ensures in
     let same = c.deref.ensures.len in
-    let dead = dead-navigated s order pages is h here below at c.args.doc row.row row.found c.renew.new.rows c.take_all.new.rows c.renew.ensures.rows c.take_all.ensures.rows
+    let dead = dead-navigated s order pages is h here below at c.args.doc row.row row.found c.renew.ensures.alone c.renew.new.rows c.take_all.new.rows c.renew.ensures.rows c.take_all.ensures.rows
     (Some here.top) refl c.len.result (omega (arith, len, same)) c.shrink_page.new.rows c.shrink_page.ensures order (Sweeps-none c.shrink_page.new.rows order) c.self.inside.dead c.self.invariant.swept in
     omega (arith, dead, len, again)
 
@@ -128,7 +128,7 @@ returns-clause-entries g c =
     let row = row-at s order pages is h (ap is_some at.found) in
     let len = c.len.ensures in
     let same = c.deref.ensures.len in
-    entries-navigated s order pages is h here below at c.args.doc row.row row.found c.renew.new.rows c.take_all.new.rows c.renew.ensures.rows c.take_all.ensures.rows
+    entries-navigated s order pages is h here below at c.args.doc row.row row.found c.renew.ensures.alone c.renew.new.rows c.take_all.new.rows c.renew.ensures.rows c.take_all.ensures.rows
     (Some here.top) refl c.len.result (omega (arith, len, same)) c.shrink_page.new.rows c.shrink_page.ensures c.sweep.new.order.items c.sweep.ensures.sweeps
     ∙ ap (λ (f : Forest _). navigated h c.args.doc f.entries) c.self.view_is
 
@@ -146,7 +146,7 @@ returns-clause-documents g c =
     let old = if_some (λ x. c.renew.result ≡ x.node.doc) (live s h) row.row row.found c.renew.ensures.old in
     c.take_all.ensures.docs
     ∙ ap (λ ds. ds ++ docs_at c.renew.new.rows below) (c.push_reserved.ensures.items ∙ ap (λ ds. ds ++ c.renew.result ∷ []) c.in-Ok.ensures.documents ∙ ap (λ d. d ∷ []) old)
-    ∙ docs-navigated s order pages is h here below at c.args.doc row.row row.found c.renew.new.rows c.take_all.new.rows c.renew.ensures.rows c.take_all.ensures.rows
+    ∙ docs-navigated s order pages is h here below at c.args.doc row.row row.found c.renew.ensures.alone c.renew.new.rows c.take_all.new.rows c.renew.ensures.rows c.take_all.ensures.rows
     ∙ ap (λ (f : Forest _). docs_under f.entries h) c.self.view_is
 
 pub returns-clause-made : goal.returns-clause-made
@@ -162,7 +162,7 @@ returns-clause-made g c =
     let row = row-at s order pages is h (ap is_some at.found) in
     let len = c.len.ensures in
     let same = c.deref.ensures.len in
-    made-navigated s order pages is h here below at c.args.doc row.row row.found c.renew.new.rows c.take_all.new.rows c.renew.ensures.rows c.take_all.ensures.rows
+    made-navigated s order pages is h here below at c.args.doc row.row row.found c.renew.ensures.alone c.renew.new.rows c.take_all.new.rows c.renew.ensures.rows c.take_all.ensures.rows
     (Some here.top) refl c.len.result (omega (arith, len, same)) c.shrink_page.new.rows c.shrink_page.ensures c.sweep.new.order.items c.sweep.ensures.sweeps
     ∙ ap (λ (f : Forest _). f.made) c.self.view_is
 
@@ -179,7 +179,7 @@ returns-clause-marks g c =
     let row = row-at s order pages is h (ap is_some at.found) in
     let len = c.len.ensures in
     let same = c.deref.ensures.len in
-    marks-navigated s order pages is h here below at c.args.doc row.row row.found c.renew.new.rows c.take_all.new.rows c.renew.ensures.rows c.take_all.ensures.rows
+    marks-navigated s order pages is h here below at c.args.doc row.row row.found c.renew.ensures.alone c.renew.new.rows c.take_all.new.rows c.renew.ensures.rows c.take_all.ensures.rows
     (Some here.top) refl c.len.result (omega (arith, len, same)) c.shrink_page.new.rows c.shrink_page.ensures c.sweep.new.order.items c.sweep.ensures.sweeps
     ∙ ap (λ (f : Forest _). f.marks) c.self.view_is
 
@@ -197,7 +197,7 @@ returns-clause-dead g c =
     let len = c.len.ensures in
     let same = c.deref.ensures.len in
     subst (λ (f : Forest _). StayDead f (forest_in c.shrink_page.new.rows c.sweep.new.order.items)) c.self.view_is
-    (StayDead-navigated s order pages is h here below at c.args.doc row.row row.found c.renew.new.rows c.take_all.new.rows c.renew.ensures.rows c.take_all.ensures.rows
+    (StayDead-navigated s order pages is h here below at c.args.doc row.row row.found c.renew.ensures.alone c.renew.new.rows c.take_all.new.rows c.renew.ensures.rows c.take_all.ensures.rows
     (Some here.top) refl c.len.result (omega (arith, len, same)) c.shrink_page.new.rows c.shrink_page.ensures c.sweep.new.order.items c.sweep.ensures.sweeps)
 
 pub returns-clause-gone : goal.returns-clause-gone
@@ -213,5 +213,5 @@ returns-clause-gone g c =
     let row = row-at s order pages is h (ap is_some at.found) in
     let len = c.len.ensures in
     let same = c.deref.ensures.len in
-    λ k some none. IsDead-navigated s order pages is h here below at c.args.doc row.row row.found c.renew.new.rows c.take_all.new.rows c.renew.ensures.rows c.take_all.ensures.rows
+    λ k some none. IsDead-navigated s order pages is h here below at c.args.doc row.row row.found c.renew.ensures.alone c.renew.new.rows c.take_all.new.rows c.renew.ensures.rows c.take_all.ensures.rows
     (Some here.top) refl c.len.result (omega (arith, len, same)) c.shrink_page.new.rows c.shrink_page.ensures c.sweep.new.order.items c.sweep.ensures.sweeps k (subst (λ (f : Forest _). IsSome (entry_of f.entries k)) (sym c.self.view_is) some) none

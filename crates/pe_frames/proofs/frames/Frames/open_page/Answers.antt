@@ -15,14 +15,16 @@ invariant_of-self-2 g c =
     let h = c.in-Ok.h in
     let row : Row _ = record { node = c.top.result; size = 1; links = c.behind.result } in
     let opens : Opens s mid t h c.args.frame c.args.doc row = record {
-      next = c.in-Ok.ensures.slot;
+      new = c.in-Ok.ensures.new;
+      given = c.in-Ok.ensures.given;
       fresh = c.in-Ok.ensures.generation;
       slots = c.in-Ok.ensures.slots;
       taken = c.in-Ok.ensures.updates;
       node = ap (λ (n : Node _). record n { top = h }) c.top.ensures;
       links = c.behind.ensures;
       one = refl;
-      written = c.name_top.ensures;
+      alone = c.name_top.ensures.alone;
+      written = c.name_top.ensures.written;
     } in
     let few = c.self.invariant.forest.few in
     rw (c.push_reserved.ensures.items, c.reserve.ensures.items)
@@ -40,14 +42,16 @@ returns-clause-entries g c =
     let h = c.in-Ok.h in
     let row : Row _ = record { node = c.top.result; size = 1; links = c.behind.result } in
     let opens : Opens s mid t h c.args.frame c.args.doc row = record {
-      next = c.in-Ok.ensures.slot;
+      new = c.in-Ok.ensures.new;
+      given = c.in-Ok.ensures.given;
       fresh = c.in-Ok.ensures.generation;
       slots = c.in-Ok.ensures.slots;
       taken = c.in-Ok.ensures.updates;
       node = ap (λ (n : Node _). record n { top = h }) c.top.ensures;
       links = c.behind.ensures;
       one = refl;
-      written = c.name_top.ensures;
+      alone = c.name_top.ensures.alone;
+      written = c.name_top.ensures.written;
     } in
     rw (c.push_reserved.ensures.items, c.reserve.ensures.items, ← c.self.view_is)
     (entries-top s mid t order c.self.inside.pages c.self.invariant.forest h c.args.frame c.args.doc row opens)
@@ -61,14 +65,16 @@ returns-clause-new g c =
     let h = c.in-Ok.h in
     let row : Row _ = record { node = c.top.result; size = 1; links = c.behind.result } in
     let opens : Opens s mid t h c.args.frame c.args.doc row = record {
-      next = c.in-Ok.ensures.slot;
+      new = c.in-Ok.ensures.new;
+      given = c.in-Ok.ensures.given;
       fresh = c.in-Ok.ensures.generation;
       slots = c.in-Ok.ensures.slots;
       taken = c.in-Ok.ensures.updates;
       node = ap (λ (n : Node _). record n { top = h }) c.top.ensures;
       links = c.behind.ensures;
       one = refl;
-      written = c.name_top.ensures;
+      alone = c.name_top.ensures.alone;
+      written = c.name_top.ensures.written;
     } in
     rw (← c.self.view_is) (new-top s mid t order c.self.inside.pages c.self.invariant.forest h c.args.frame c.args.doc row opens)
 
@@ -81,14 +87,16 @@ returns-clause-marks g c =
     let h = c.in-Ok.h in
     let row : Row _ = record { node = c.top.result; size = 1; links = c.behind.result } in
     let opens : Opens s mid t h c.args.frame c.args.doc row = record {
-      next = c.in-Ok.ensures.slot;
+      new = c.in-Ok.ensures.new;
+      given = c.in-Ok.ensures.given;
       fresh = c.in-Ok.ensures.generation;
       slots = c.in-Ok.ensures.slots;
       taken = c.in-Ok.ensures.updates;
       node = ap (λ (n : Node _). record n { top = h }) c.top.ensures;
       links = c.behind.ensures;
       one = refl;
-      written = c.name_top.ensures;
+      alone = c.name_top.ensures.alone;
+      written = c.name_top.ensures.written;
     } in
     let gives = Gives-top s mid t order c.self.inside.pages c.self.invariant.forest h c.args.frame c.args.doc row opens in
     rw (← c.self.view_is) (subst (λ hs. Gives (forest_in s order) (forest_in t hs) h) (sym (c.push_reserved.ensures.items ∙ ap (λ hs. hs ++ h ∷ []) c.reserve.ensures.items)) gives)
@@ -102,14 +110,16 @@ returns-clause-dead g c =
     let h = c.in-Ok.h in
     let row : Row _ = record { node = c.top.result; size = 1; links = c.behind.result } in
     let opens : Opens s mid t h c.args.frame c.args.doc row = record {
-      next = c.in-Ok.ensures.slot;
+      new = c.in-Ok.ensures.new;
+      given = c.in-Ok.ensures.given;
       fresh = c.in-Ok.ensures.generation;
       slots = c.in-Ok.ensures.slots;
       taken = c.in-Ok.ensures.updates;
       node = ap (λ (n : Node _). record n { top = h }) c.top.ensures;
       links = c.behind.ensures;
       one = refl;
-      written = c.name_top.ensures;
+      alone = c.name_top.ensures.alone;
+      written = c.name_top.ensures.written;
     } in
     let stay = StayDead-top s mid t order c.self.inside.pages c.self.invariant.forest h c.args.frame c.args.doc row opens in
     rw (← c.self.view_is) (subst (λ hs. StayDead (forest_in s order) (forest_in t hs)) (sym (c.push_reserved.ensures.items ∙ ap (λ hs. hs ++ h ∷ []) c.reserve.ensures.items)) stay)
