@@ -8,13 +8,15 @@ use Rattle.pe_arena.specs.declared.handle.Handle.{Handle}
 use Rattle.pe_frames.specs.Forest.{Entry, same_handle, has_handle, entry_of, is_under, top_of, redone, AreFrames}
 use Rattle.pe_frames.specs.Order.{after, is_child, children, tree_order, handles_under}
 use Rattle.pe_frames.specs.Walk.{visited, is_of_page, changed_where, changed_in, changed_to, changed_under, changed_page}
-use Rattle.pe_frames.proofs.Lemmas.{some_same, true_or_false, not_same}
+use Rattle.pe_frames.proofs.Lemmas.{some_same}
+use Rattle.std.proofs.lemmas.Bool.{cases_Bool, false_from_ne_true}
 use Rattle.pe_frames.proofs.Nodes.{same_handle-Decides, has-push}
 use Rattle.pe_frames.proofs.Below.{entry-handle}
 use Rattle.pe_frames.proofs.Tree.{Each, each-map, IsTree}
 use Rattle.pe_frames.proofs.Under.{handles-once}
 use Rattle.pe_frames.proofs.Visited.{visited-next, visited-new, visited-last}
 use Rattle.pe_frames.proofs.Counted.{IsOwn, own-each, under-entry, page-under, first-visited}
+use Rattle.std.proofs.Math.Bool.{or-false, or-true}
 
 map-same : {A B : Type 0} (f g : A → B) (xs : List A) → Each (λ x. f x ≡ g x) xs → map f xs ≡ map g xs
 map-same f g [] p = refl
@@ -85,27 +87,19 @@ module _ {D : Type 0} where
           ∙ ap (λ b. Some (record e { doc = cond b (change e) e.doc })) (ap (λ k. has_handle k done) (entry-handle es next e found) ∙ fresh)
 
       one-entry : (x : Entry D) → IsOwn es x → redone next (change e) (changed_in change done x) ≡ changed_in change (done ++ next ∷ []) x
-      one-entry x own = elim (true_or_false (same_handle x.handle next)) as (λ _. redone next (change e) (changed_in change done x) ≡ changed_in change (done ++ next ∷ []) x) [
+      one-entry x own = elim (cases_Bool (same_handle x.handle next)) as (λ _. redone next (change e) (changed_in change done x) ≡ changed_in change (done ++ next ∷ []) x) [
         | inl t ↦
             let same = (same_handle-Decides x.handle next).0 t in
             let it : x ≡ e = some_same (sym own ∙ ap (entry_of es) same ∙ found) in
             ap (λ d. record x { doc = d }) (
             ap (λ b. cond b (change e) (cond (has_handle x.handle done) (change x) x.doc)) t
             ∙ ap change (sym it)
-            ∙ sym (ap (λ b. cond b (change x) x.doc) (has-push x.handle next done ∙ ap (λ b. has_handle x.handle done || b) ((same_handle-Decides next x.handle).1 (sym same)) ∙ or_true (has_handle x.handle done))))
+            ∙ sym (ap (λ b. cond b (change x) x.doc) (has-push x.handle next done ∙ ap (λ b. has_handle x.handle done || b) ((same_handle-Decides next x.handle).1 (sym same)) ∙ or-true (has_handle x.handle done))))
         | inr t ↦
             ap (λ d. record x { doc = d }) (
             ap (λ b. cond b (change e) (cond (has_handle x.handle done) (change x) x.doc)) t
-            ∙ sym (ap (λ b. cond b (change x) x.doc) (has-push x.handle next done ∙ ap (λ b. has_handle x.handle done || b) (not_same (same_handle next x.handle) (λ s. true≢false (sym ((same_handle-Decides x.handle next).1 (sym ((same_handle-Decides next x.handle).0 s))) ∙ t))) ∙ or_none (has_handle x.handle done))))
+            ∙ sym (ap (λ b. cond b (change x) x.doc) (has-push x.handle next done ∙ ap (λ b. has_handle x.handle done || b) (false_from_ne_true (same_handle next x.handle) (λ s. true≢false (sym ((same_handle-Decides x.handle next).1 (sym ((same_handle-Decides next x.handle).0 s))) ∙ t))) ∙ or-false (has_handle x.handle done))))
       ]
-        where
-          or_true : (b : Bool) → (b || true) ≡ true
-          or_true true = refl
-          or_true false = refl
-
-          or_none : (b : Bool) → (b || false) ≡ b
-          or_none true = refl
-          or_none false = refl
 
       -- one more frame is changed
       pub changed-one : map (redone next (change e)) (map (changed_in change done) es) ≡ map (changed_in change (done ++ next ∷ [])) es
@@ -116,7 +110,7 @@ module _ {D : Type 0} where
       changed-none still = same-changes (changed_in change done) (changed_in change (done ++ next ∷ [])) (λ x own. sym (by_test x own) ∙ one-entry x own)
         where
           by_test : (x : Entry D) → IsOwn es x → redone next (change e) (changed_in change done x) ≡ changed_in change done x
-          by_test x own = elim (true_or_false (same_handle x.handle next)) as (λ _. redone next (change e) (changed_in change done x) ≡ changed_in change done x) [
+          by_test x own = elim (cases_Bool (same_handle x.handle next)) as (λ _. redone next (change e) (changed_in change done x) ≡ changed_in change done x) [
             | inl t ↦
                 let same = (same_handle-Decides x.handle next).0 t in
                 let it : x ≡ e = some_same (sym own ∙ ap (entry_of es) same ∙ found) in

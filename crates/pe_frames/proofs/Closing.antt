@@ -11,7 +11,7 @@ use Rattle.pe_frames.specs.Order.{handles_under, docs_under, closed}
 use Rattle.pe_frames.specs.Links.{at, unlinked, smaller, docs_at, Rewrites, Removes}
 use Rattle.pe_frames.specs.Kept.{kept, entries_in, standing_in, AreOnce, Sweeps, IsSwept, forest_in, IsForest}
 use Rattle.pe_frames.proofs.Nodes.{same_handle-Decides}
-use Rattle.pe_frames.proofs.Pages.{not_same}
+use Rattle.std.proofs.lemmas.Bool.{false_from_ne_true}
 use Rattle.pe_frames.proofs.Standings.{stands-at}
 use Rattle.pe_frames.proofs.Under.{tree-forest, handles-once}
 use Rattle.pe_frames.proofs.Closed.{page_left, few-go, pages-gone, earlier-lives, later-lives, parent-lives, page-lives, page-large, IsForest-closed, entries-closed, StayDead-closed, IsDead-closed, length-closed}
@@ -73,7 +73,7 @@ module _ {D : Type 0} where
       -- the documents of all, in tree order
       pub docs-left : docs_at s (h ∷ []) ++ docs_at one below ≡ docs_under (entries_in (kept s order [])) h
       docs-left =
-          ap (λ ds. docs_at s (h ∷ []) ++ ds) (docs-same s one below (λ k t. taken.rows k ∙ ap (λ b. cond (b || false) None (live s k)) (not_same (same_handle h k) (λ q. true≢false (sym t ∙ ap (λ j. has_handle j below) (sym ((same_handle-Decides h k).0 q)) ∙ root-once)))))
+          ap (λ ds. docs_at s (h ∷ []) ++ ds) (docs-same s one below (λ k t. taken.rows k ∙ ap (λ b. cond (b || false) None (live s k)) (false_from_ne_true (same_handle h k) (λ q. true≢false (sym t ∙ ap (λ j. has_handle j below) (sym ((same_handle-Decides h k).0 q)) ∙ root-once)))))
           ∙ before-join (live s h) (docs_at s below)
           ∙ ap (docs_at s) leaves.all
           ∙ docs-below s order pages is h

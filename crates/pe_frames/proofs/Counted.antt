@@ -6,11 +6,12 @@ use Rattle.pe_arena.specs.declared.handle.Handle.{Handle}
 use Rattle.pe_frames.specs.Forest.{Entry, same_handle, has_handle, first_of, top_of, entry_of, is_under, page_size, AreFrames}
 use Rattle.pe_frames.specs.Order.{children, in_tree_order, handles_under, AreOnce}
 use Rattle.pe_frames.specs.Walk.{visited, is_of_page}
-use Rattle.pe_frames.proofs.Lemmas.{some_same, true_or_false, not_same, either, or_right, both, each_of, agrees}
-use Rattle.pe_frames.proofs.Nodes.{same_handle-Decides}
+use Rattle.pe_frames.proofs.Lemmas.{some_same, agrees}
+use Rattle.std.proofs.lemmas.Bool.{and_from, and_parts, cases_Bool, false_from_ne_true, or_cases, or_right}
+use Rattle.pe_frames.proofs.Nodes.{same_handle-Decides, has-append}
 use Rattle.pe_frames.proofs.Below.{entry-handle}
 use Rattle.pe_frames.proofs.Tree.{Each, each-map, IsTree}
-use Rattle.pe_frames.proofs.TreeOrder.{walks, walk-is, has-append}
+use Rattle.pe_frames.proofs.TreeOrder.{walks, walk-is}
 use Rattle.pe_frames.proofs.Visited.{visited-first}
 use Rattle.pe_frames.proofs.Subtrees.{root-live}
 use Rattle.pe_frames.proofs.Under.{handles-are, handles-once, handles-none, handles-live, frames-live, its-own}
@@ -25,7 +26,7 @@ record Placed (hs : List Handle) (h : Handle) : Type 0 where
 
 placed : (hs : List Handle) (h : Handle) → has_handle h hs ≡ true → Placed hs h
 placed [] h t = absurd (true≢false (sym t))
-placed (k ∷ hs) h t = elim (either (same_handle k h) (has_handle h hs) t) as (λ _. Placed (k ∷ hs) h) [
+placed (k ∷ hs) h t = elim (or_cases (same_handle k h) (has_handle h hs) t) as (λ _. Placed (k ∷ hs) h) [
   | inl e ↦ record { front = []; back = hs; is = ap (λ x. x ∷ hs) ((same_handle-Decides k h).0 e) }
   | inr e ↦ let s = placed hs h e in record { front = k ∷ s.front; back = s.back; is = ap (λ ks. k ∷ ks) s.is }
 ]
@@ -43,7 +44,7 @@ within-length (x ∷ ks) hs once among =
   where
     fewer : (s : Placed hs x) (k : Handle) → has_handle k ks ≡ true → has_handle k hs ≡ true → has_handle k (s.front ++ s.back) ≡ true
     fewer s k t u =
-        let other : same_handle x k ≡ false = not_same (same_handle x k) (λ e. true≢false (sym (ap (λ j. has_handle j ks) ((same_handle-Decides x k).0 e) ∙ t) ∙ once.0)) in
+        let other : same_handle x k ≡ false = false_from_ne_true (same_handle x k) (λ e. true≢false (sym (ap (λ j. has_handle j ks) ((same_handle-Decides x k).0 e) ∙ t) ∙ once.0)) in
         has-append k s.front s.back
         ∙ ap (λ b. has_handle k s.front || (b || has_handle k s.back)) (sym other)
         ∙ sym (has-append k s.front (x ∷ s.back))
@@ -73,17 +74,17 @@ module _ {D : Type 0} where
   own-each (e ∷ es) are = (
     ap (λ b. cond b (Some e) (entry_of es e.handle)) ((same_handle-Decides e.handle e.handle).1 refl),
     each-map (IsOwn es) (IsOwn (e ∷ es)) (λ x f.
-        ap (λ b. cond b (Some e) (entry_of es x.handle)) (not_same (same_handle e.handle x.handle) (λ t. true≢false (sym (ap is_some f) ∙ ap (λ k. is_some (entry_of es k)) (sym ((same_handle-Decides e.handle x.handle).0 t)) ∙ ap is_some are.0.new))) ∙ f) es (own-each es are.1),
+        ap (λ b. cond b (Some e) (entry_of es x.handle)) (false_from_ne_true (same_handle e.handle x.handle) (λ t. true≢false (sym (ap is_some f) ∙ ap (λ k. is_some (entry_of es k)) (sym ((same_handle-Decides e.handle x.handle).0 t)) ∙ ap is_some are.0.new))) ∙ f) es (own-each es are.1),
   )
 
   -- no handle stands twice
   own-once : (es : List (Entry D)) → AreFrames es → AreOnce (handles es)
   own-once [] are = tt
-  own-once (e ∷ es) are = (not_same (has_handle e.handle (handles es)) (λ t. true≢false (sym (known es are.1 e.handle t) ∙ ap is_some are.0.new)), own-once es are.1)
+  own-once (e ∷ es) are = (false_from_ne_true (has_handle e.handle (handles es)) (λ t. true≢false (sym (known es are.1 e.handle t) ∙ ap is_some are.0.new)), own-once es are.1)
     where
       known : (xs : List (Entry D)) → AreFrames xs → (k : Handle) → has_handle k (handles xs) ≡ true → is_some (entry_of xs k) ≡ true
       known [] fs k t = absurd (true≢false (sym t))
-      known (x ∷ xs) fs k t = elim (either (same_handle x.handle k) (has_handle k (handles xs)) t) as (λ _. is_some (entry_of (x ∷ xs) k) ≡ true) [
+      known (x ∷ xs) fs k t = elim (or_cases (same_handle x.handle k) (has_handle k (handles xs)) t) as (λ _. is_some (entry_of (x ∷ xs) k) ≡ true) [
         | inl s ↦ ap (λ b. is_some (cond b (Some x) (entry_of xs k))) s
         | inr s ↦ by_test (same_handle x.handle k) (known xs fs.1 k s)
       ]
@@ -95,7 +96,7 @@ module _ {D : Type 0} where
   -- a live frame is listed
   live-listed : (es : List (Entry D)) (k : Handle) (x : Entry D) → entry_of es k ≡ Some x → has_handle k (handles es) ≡ true
   live-listed [] k x f = absurd cc
-  live-listed (e ∷ es) k x f = elim (true_or_false (same_handle e.handle k)) as (λ _. (same_handle e.handle k || has_handle k (handles es)) ≡ true) [
+  live-listed (e ∷ es) k x f = elim (cases_Bool (same_handle e.handle k)) as (λ _. (same_handle e.handle k || has_handle k (handles es)) ≡ true) [
     | inl t ↦ ap (λ b. b || has_handle k (handles es)) t
     | inr t ↦ or_right (same_handle e.handle k) (has_handle k (handles es)) (live-listed es k x (sym (ap (λ b. cond b (Some e) (entry_of es k)) t) ∙ f))
   ]
@@ -117,14 +118,14 @@ module _ {D : Type 0} where
 
         by_test : (b : Bool) → keep x ≡ b → has_handle k (handles (cond b (x ∷ filter keep xs) (filter keep xs))) ≡ true → (has_handle k (handles (filter keep xs)) ≡ true → Passes xs k) → Passes (x ∷ xs) k
         by_test false q u rest = later (rest u)
-        by_test true q u rest = elim (either (same_handle x.handle k) (has_handle k (handles (filter keep xs))) u) as (λ _. Passes (x ∷ xs) k) [
+        by_test true q u rest = elim (or_cases (same_handle x.handle k) (has_handle k (handles (filter keep xs))) u) as (λ _. Passes (x ∷ xs) k) [
           | inl s ↦ record { entry = x; found = ap (entry_of es) (sym ((same_handle-Decides x.handle k).0 s)) ∙ own.0; keeps = q; listed = ap (λ b. b || has_handle k (handles xs)) s }
           | inr s ↦ later (rest s)
         ]
 
     passed : (xs : List (Entry D)) → Each (IsOwn es) xs → (k : Handle) (e : Entry D) → entry_of es k ≡ Some e → keep e ≡ true → has_handle k (handles xs) ≡ true → has_handle k (handles (filter keep xs)) ≡ true
     passed [] own k e f q t = t
-    passed (x ∷ xs) own k e f q t = elim (either (same_handle x.handle k) (has_handle k (handles xs)) t) as (λ _. has_handle k (handles (filter keep (x ∷ xs))) ≡ true) [
+    passed (x ∷ xs) own k e f q t = elim (or_cases (same_handle x.handle k) (has_handle k (handles xs)) t) as (λ _. has_handle k (handles (filter keep (x ∷ xs))) ≡ true) [
       | inl s ↦
           let same : x ≡ e = some_same (sym own.0 ∙ ap (entry_of es) ((same_handle-Decides x.handle k).0 s) ∙ f) in
           ap (λ c. has_handle k (handles (cond c (x ∷ filter keep xs) (filter keep xs)))) (ap keep same ∙ q) ∙ ap (λ b. b || has_handle k (handles (filter keep xs))) s
@@ -141,7 +142,7 @@ module _ {D : Type 0} where
       where
         by_test : (b : Bool) → AreOnce (handles (filter keep xs)) → AreOnce (handles (cond b (x ∷ filter keep xs) (filter keep xs)))
         by_test false rest = rest
-        by_test true rest = (not_same (has_handle x.handle (handles (filter keep xs))) (λ t. true≢false (sym (passing xs own.1 x.handle t).listed ∙ once.0)), rest)
+        by_test true rest = (false_from_ne_true (has_handle x.handle (handles (filter keep xs))) (λ t. true≢false (sym (passing xs own.1 x.handle t).listed ∙ once.0)), rest)
 
   -- of two lists of live frames, none of them twice, as many pass where the same handles do
   same-count : (es : List (Entry D)) (p q : Entry D → Bool) (xs ys : List (Entry D)) → Each (IsOwn es) xs → Each (IsOwn es) ys → AreOnce (handles xs) → AreOnce (handles ys)
@@ -193,8 +194,8 @@ module _ {D : Type 0} where
     -- as many of those below the root pass as there are live frames below it that do
     pub counted : (root : Handle) (keep : Entry D → Bool) → length (filter keep (in_tree_order es root)) ≡ length (filter (λ e. is_under root e && keep e) es)
     counted root keep = same-count es keep (λ e. is_under root e && keep e) (in_tree_order es root) es (frames-live es tree root) (own-each es are) (handles-once es tree root) (own-once es are)
-        (λ k e f t listed. (both (is_under root e) (keep e) (sym (under-entry root k e f) ∙ listed) t, live-listed es k e f))
-        (λ k e f t listed. let parts = each_of (is_under root e) (keep e) t in (parts.1, under-entry root k e f ∙ parts.0))
+        (λ k e f t listed. (and_from (is_under root e) (keep e) (sym (under-entry root k e f) ∙ listed) t, live-listed es k e f))
+        (λ k e f t listed. let parts = and_parts (is_under root e) (keep e) t in (parts.1, under-entry root k e f ∙ parts.0))
 
     -- the top frame of a live frame's page is live, and is its own top frame
     pub record HasTop (e : Entry D) : Type 0 where

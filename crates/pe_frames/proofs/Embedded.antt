@@ -12,16 +12,14 @@ use Rattle.pe_frames.specs.Order.{head_of}
 use Rattle.pe_frames.specs.Links.{Rewrites, at, young, linked}
 use Rattle.pe_frames.specs.Kept.{kept, node_at, entry_in, entries_in, HasLinks, forest_in, IsForest, IsSwept}
 use Rattle.pe_frames.proofs.Nodes.{same_handle-Decides, kept-live, found-live}
-use Rattle.pe_frames.proofs.Pages.{entry-absent, not_same}
+use Rattle.pe_frames.proofs.Pages.{entry-absent}
+use Rattle.std.proofs.lemmas.Bool.{false_from_ne_true}
 use Rattle.pe_frames.proofs.Writes.{Rewrites-one, Rewrites-then, still-live}
 use Rattle.pe_frames.proofs.Below.{IsBelow, IsCounted, IsCounted-below, room_is, node-below, top-entry, pages-below}
 use Rattle.pe_frames.proofs.Kin.{child-absent, childless}
 use Rattle.pe_frames.proofs.Linked.{linked-node, linked-size, grown, grown-node, grown-size, grown-links, links-new, links-old, last-is-child, last-kept}
 use Rattle.pe_frames.proofs.Opened.{Steps, Makes, Makes-steps, each-row, sized-below, IsForest-made, StayDead-made, new-made, Gives-made, entries-made, IsSwept-made}
-
-if_each : {A : Type 0} (P : A → Type 0) (o : Option A) → ((x : A) → o ≡ Some x → P x) → IfSome o P
-if_each P None f = tt
-if_each P (Some x) f = f x refl
+use Rattle.pe_frames.proofs.Lemmas.{if_each, some_same}
 
 module _ {D : Type 0} where
   -- a row was taken in for a frame below a live one
@@ -104,14 +102,11 @@ module _ {D : Type 0} where
         pages-say : page_count (entry_in (entries_in (kept s order [])) (record { handle = h; node = row.node }) ∷ entries_in (kept s order [])) ≡ page_count (entries_in (kept s order []))
         pages-say = subst (λ (n : Node D). page_count (entry_in (entries_in (kept s order [])) (record { handle = h; node = n }) ∷ entries_in (kept s order [])) ≡ page_count (entries_in (kept s order []))) (sym embeds.node) (pages-below (entries_in (kept s order [])) p place embeds.below h frame doc)
 
-        some_same : {A : Type 0} {a b : A} → Some a ≡ Some b → a ≡ b
-        some_same q = cc
-
         small : (r : Row D) → live s place.top ≡ Some r → r.size ≤ 255
         small r e = subst (λ (x : Row D). x.size ≤ 255) (some_same (sym counted.before ∙ e)) counted.room
 
         parent-other : same_handle p h ≡ false
-        parent-other = not_same (same_handle p h) (λ e.
+        parent-other = false_from_ne_true (same_handle p h) (λ e.
             let found = ap is_some embeds.below.found in
             let none = entry-absent (kept s order []) h is.nodes unseen in
             true≢false (sym found ∙ ap is_some (ap (entry_of (entries_in (kept s order []))) ((same_handle-Decides p h).0 e) ∙ none)))
@@ -132,7 +127,7 @@ module _ {D : Type 0} where
         links-there j r ne found =
             subst (λ o. HasLinks (entry_in (entries_in (kept s order [])) (record { handle = h; node = row.node }) ∷ entries_in (kept s order [])) j (linked p o h j (at (Some place.top) grown j r))) (sym last-is)
             (links-old (entry_in (entries_in (kept s order [])) (record { handle = h; node = row.node })) (entries_in (kept s order [])) p parent-says j
-            (not_same (same_handle h j) (λ e. ne (sym ((same_handle-Decides h j).0 e)))) (at (Some place.top) grown j r)
+            (false_from_ne_true (same_handle h j) (λ e. ne (sym ((same_handle-Decides h j).0 e)))) (at (Some place.top) grown j r)
             (grown-links (entries_in (kept s order [])) place.top j r (is.linked j r found))
             (λ f. last-is-child (kept s order []) is.nodes is.apart p j r.node (kept-live s j order (is.listed j) ∙ ap (option_map (λ x. x.node)) found)
             (λ q. f (ap (λ (n : Node D). n.parent) (grown-node place.top j r) ∙ q))))

@@ -11,15 +11,13 @@ use Rattle.pe_frames.specs.Links.{SameMarks, Removes, doc_before, docs_at}
 use Rattle.pe_frames.specs.Kept.{Kept, joined, shown, kept, Sweeps, IsSwept, AreOnce}
 use Rattle.pe_frames.proofs.Nodes.{has-push, same_handle-Decides, same_or_other}
 use Rattle.pe_frames.proofs.Writes.{map-set_same, different, SameMarks-refl, SameMarks-then}
+use Rattle.std.proofs.Math.Bool.{or-true}
+use Rattle.std.proofs.lemmas.Bool.{or_right}
 
 swept-known : (p : Handle → Bool) (k : Handle) (hs : List Handle) → has_handle k (filter p hs) ≡ true → has_handle k hs ≡ true
 swept-known p k [] e = e
 swept-known p k (h ∷ hs) e = by_test (p h) e (λ q. swept-known p k hs q)
   where
-    or_right : (b c : Bool) → c ≡ true → (b || c) ≡ true
-    or_right true c q = refl
-    or_right false c q = q
-
     keep : (b c d : Bool) → (c ≡ true → d ≡ true) → (b || c) ≡ true → (b || d) ≡ true
     keep true c d f q = refl
     keep false c d f q = f q
@@ -37,12 +35,8 @@ swept-listed p k t (h ∷ hs) e = elim (same_or_other h k) as (λ _. has_handle 
   | inr q ↦ keep (p h) (swept-listed p k t hs (ap (λ b. b || has_handle k hs) (sym q) ∙ e))
 ]
   where
-    or_right : (b : Bool) → (b || true) ≡ true
-    or_right true = refl
-    or_right false = refl
-
     keep : (b : Bool) → has_handle k (filter p hs) ≡ true → has_handle k (cond b (h ∷ filter p hs) (filter p hs)) ≡ true
-    keep true r = ap (λ c. same_handle h k || c) r ∙ or_right (same_handle h k)
+    keep true r = ap (λ c. same_handle h k || c) r ∙ or-true (same_handle h k)
     keep false r = r
 
 module _ {D : Type 0} where
@@ -153,11 +147,7 @@ module _ {D : Type 0} where
 get-has : (ks : List Handle) (i : ℕ) (d : Handle) → i < length ks → has_handle (get_or ks i d) ks ≡ true
 get-has [] i d lt = absurd (omega (arith, lt))
 get-has (k ∷ ks) zero d lt = ap (λ b. b || has_handle k ks) ((same_handle-Decides k k).1 refl)
-get-has (k ∷ ks) (suc i) d lt = ap (λ b. same_handle k (get_or ks i d) || b) (get-has ks i d (omega (arith, lt))) ∙ or_right (same_handle k (get_or ks i d))
-  where
-    or_right : (b : Bool) → (b || true) ≡ true
-    or_right true = refl
-    or_right false = refl
+get-has (k ∷ ks) (suc i) d lt = ap (λ b. same_handle k (get_or ks i d) || b) (get-has ks i d (omega (arith, lt))) ∙ or-true (same_handle k (get_or ks i d))
 
 -- what stands at a place does not stand before it
 pub once-at : (ks : List Handle) (i : ℕ) (d : Handle) → AreOnce ks → i < length ks → has_handle (get_or ks i d) (take i ks) ≡ false

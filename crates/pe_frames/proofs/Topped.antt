@@ -10,7 +10,7 @@ use Rattle.pe_frames.specs.Forest.{entry_of, Gives, StayDead, same_handle}
 use Rattle.pe_frames.specs.Links.{at, links_in}
 use Rattle.pe_frames.specs.Kept.{kept, node_at, entry_in, entries_in, HasLinks, forest_in, IsForest, IsSwept}
 use Rattle.pe_frames.proofs.Nodes.{same_handle-Decides, kept-live}
-use Rattle.pe_frames.proofs.Pages.{not_same}
+use Rattle.std.proofs.lemmas.Bool.{false_from_ne_true}
 use Rattle.pe_frames.proofs.Writes.{Rewrites-one}
 use Rattle.pe_frames.proofs.Kin.{childless}
 use Rattle.pe_frames.proofs.Linked.{links-top, links-alone}
@@ -40,7 +40,7 @@ module _ {D : Type 0} where
 
   module _ (s mid t : Slots (Row D)) (order : List Handle) (pages : ℕ) (is : IsForest s order pages) (h : Handle) (frame : ℕ) (doc : D) (row : Row D) (opens : Opens s mid t h frame doc row) where
     other : (k : Handle) (r : Row D) → k ≢ h → at (Some h) (topped h) k r ≡ r
-    other k r ne = ap (λ b. cond b (topped h r) r) (not_same (same_handle h k) (λ e. ne (sym ((same_handle-Decides h k).0 e))))
+    other k r ne = ap (λ b. cond b (topped h r) r) (false_from_ne_true (same_handle h k) (λ e. ne (sym ((same_handle-Decides h k).0 e))))
 
     itself : at (Some h) (topped h) h row ≡ topped h row
     itself = ap (λ b. cond b (topped h row) row) ((same_handle-Decides h h).1 refl)

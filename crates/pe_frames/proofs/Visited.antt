@@ -4,7 +4,8 @@ use Rattle.pe_arena.specs.declared.handle.Handle.{Handle}
 use Rattle.pe_frames.specs.Forest.{same_handle, has_handle}
 use Rattle.pe_frames.specs.Order.{head_of, after, AreOnce}
 use Rattle.pe_frames.specs.Walk.{visited}
-use Rattle.pe_frames.proofs.Lemmas.{some_same, not_same, or_right, neither}
+use Rattle.pe_frames.proofs.Lemmas.{some_same}
+use Rattle.std.proofs.lemmas.Bool.{false_from_ne_true, or_from, or_right}
 use Rattle.pe_frames.proofs.Nodes.{same_handle-Decides, same_or_other}
 
 -- the list begins with this one
@@ -25,7 +26,7 @@ head-listed h ks = ap (λ b. b || has_handle h ks) ((same_handle-Decides h h).1 
 
 -- what is listed behind a handle that is listed once is another
 other-listed : (k h : Handle) (ks : List Handle) → has_handle k ks ≡ false → has_handle h ks ≡ true → same_handle k h ≡ false
-other-listed k h ks once listed = not_same (same_handle k h) (λ t. true≢false (sym listed ∙ ap (λ j. has_handle j ks) (sym ((same_handle-Decides k h).0 t)) ∙ once))
+other-listed k h ks once listed = false_from_ne_true (same_handle k h) (λ t. true≢false (sym listed ∙ ap (λ j. has_handle j ks) (sym ((same_handle-Decides k h).0 t)) ∙ once))
 
 -- what stands behind a handle is listed
 pub next-listed : (h next : Handle) (ks : List Handle) → after h ks ≡ Some next → has_handle next ks ≡ true
@@ -70,7 +71,7 @@ visited-new (k ∷ ks) once h next q = elim (same_or_other k h) as (λ _. has_ha
   | inr f ↦
       let later = sym (ap (λ b. cond b (head_of ks) (after h ks)) f) ∙ q in
       ap (λ b. has_handle next (k ∷ cond b [] (visited h ks))) f
-      ∙ neither (same_handle k next) (has_handle next (visited h ks)) (other-listed k next ks once.0 (next-listed h next ks later)) (visited-new ks once.1 h next later)
+      ∙ or_from (same_handle k next) (has_handle next (visited h ks)) (other-listed k next ks once.0 (next-listed h next ks later)) (visited-new ks once.1 h next later)
 ]
 
 -- where nothing stands behind the last, all are visited

@@ -13,6 +13,7 @@ use Rattle.pe_frames.specs.Kept.{above_in, Kept, joined, kept, shown, node_at, e
 use Rattle.pe_frames.specs.Links.{links_by, young, links_in}
 use Rattle.pe_frames.proofs.Writes.{map-set_same, mark-kept, SameMarks-write}
 use Rattle.pe_frames.proofs.Nodes.{same_handle-Decides, same_or_other}
+use Rattle.pe_frames.proofs.Lemmas.{some_same}
 
 module _ {D : Type 0} (h : Handle) (w : D) where
   -- the kept frame with this document, if it is the named one
@@ -135,22 +136,19 @@ module _ {D : Type 0} (h : Handle) (w : D) where
         ap (λ ys. kept (with_value s h.slot (record r { node = record r.node { doc = w } })) hs ys) (ap (λ o. joined k o (map redo xs)) (shown-redo k) ∙ joined-redo k (shown s k) xs)
         ∙ kept-redo hs (joined k (shown s k) xs)
 
-    same_some : {A : Type 0} {a b : A} → Some a ≡ Some b → a ≡ b
-    same_some e = cc
-
     -- every other row is as it was, and this one but for the document
     row-redo : (k : Handle) (x : Row D) → live (with_value s h.slot (record r { node = record r.node { doc = w } })) k ≡ Some x → (y : Row D) × (live s k ≡ Some y) × (x.size ≡ y.size) × (x.node.parent ≡ y.node.parent) × (x.node.depth ≡ y.node.depth) × (x.links ≡ y.links)
     row-redo k x e = elim (same_or_other k h) as (λ _. (y : Row D) × (live s k ≡ Some y) × (x.size ≡ y.size) × (x.node.parent ≡ y.node.parent) × (x.node.depth ≡ y.node.depth) × (x.links ≡ y.links)) [
       | inl q ↦
           let kh = (same_handle-Decides k h).0 q in
-          let rx : x ≡ record r { node = record r.node { doc = w } } = same_some (sym e ∙ ap (live (with_value s h.slot (record r { node = record r.node { doc = w } }))) kh ∙ up.changed) in
+          let rx : x ≡ record r { node = record r.node { doc = w } } = some_same (sym e ∙ ap (live (with_value s h.slot (record r { node = record r.node { doc = w } }))) kh ∙ up.changed) in
           (r, ap (live s) kh ∙ found, ap (λ z. z.size) rx, ap (λ z. z.node.parent) rx, ap (λ z. z.node.depth) rx, ap (λ z. z.links) rx)
       | inr q ↦ (x, sym (up.others k (λ f. true≢false (sym ((same_handle-Decides k h).1 f) ∙ q))) ∙ e, refl, refl, refl, refl)
     ]
 
     shown_row : (o : Option (Row D)) (n : Node D) → option_map (λ y. y.node) o ≡ Some n → (x : Row D) × (o ≡ Some x) × (x.node ≡ n)
     shown_row None n e = absurd cc
-    shown_row (Some x) n e = (x, refl, same_some e)
+    shown_row (Some x) n e = (x, refl, some_same e)
 
     still_shown : (o : Option (Node D)) (k : Handle) → IsSome (option_map (renode k) o) → IsSome o
     still_shown None k p = p

@@ -1,6 +1,6 @@
 use Rattle.pe_frames.specs.Forest.{entry_of}
 use Rattle.pe_frames.proofs.Under.{tree-seen}
-use Rattle.pe_frames.proofs.Lemmas.{if_found}
+use Rattle.pe_frames.proofs.Lemmas.{if_each}
 use Rattle.pe_frames.proofs.Climbing.{parent-lives}
 use Rattle.pe_frames.proofs.Climbed.{path-up, top-up, top-alone}
 use Rattle.pe_frames.proofs.frames.Frames.is_climbed_by_parents.Goals as goal
@@ -27,4 +27,4 @@ pub returns-clause-top : goal.returns-clause-top
 returns-clause-top g c =
     let es = c.args.self.now.entries in
     let tree = (tree-seen c.self.inside.rows c.self.inside.order.items c.self.inside.pages c.self.invariant.forest c.args.self.now c.self.view_is) in
-    λ h. if_found (entry_of es h) (λ e f q. top-alone es tree h e f q)
+    λ h. if_each _ (entry_of es h) (λ e f q. top-alone es tree h e f q)

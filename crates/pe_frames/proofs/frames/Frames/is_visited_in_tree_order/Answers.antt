@@ -1,7 +1,6 @@
 use Rattle.pe_frames.specs.Order.{handles_under}
 use Rattle.pe_frames.proofs.Laws.{laws-forest}
-use Rattle.pe_frames.proofs.Under.{tree-seen}
-use Rattle.pe_frames.proofs.Under.{handles-once}
+use Rattle.pe_frames.proofs.Under.{tree-seen, handles-once}
 use Rattle.pe_frames.proofs.Visited.{next-listed, visited-next, visited-new, visited-last, visited-within}
 use Rattle.pe_frames.proofs.Counted.{first-visited, root-listed}
 use Rattle.pe_frames.proofs.frames.Frames.is_visited_in_tree_order.Goals as goal
