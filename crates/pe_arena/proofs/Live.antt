@@ -3,7 +3,7 @@ use Rattle.std.proofs.Common.{◌≡◌, ◌≢◌, inl, inr, ℕ, ◌+◌, ◌<
 use Rattle.std.specs.Prelude.{◌==◌, IfOk, OnErr}
 use Rattle.std.proofs.lemmas.Bool.Decides.{nat_tests}
 use Rattle.pe_arena.specs.declared.handle.Handle.{Handle}
-use Rattle.pe_arena.specs.Slots.{Slot, Slots, slot_at, mark, value, live, put, holding, with_value, IsNext, Updates, StayDead}
+use Rattle.pe_arena.specs.Slots.{Slot, Slots, slot_at, mark, value, live, put, holding, with_value, IsNext, IsGiven, Updates, StayDead}
 use Rattle.pe_arena.proofs.Kept.{same_or_not}
 use Rattle.pe_arena.proofs.Lists.{get_or-push_before, get_or-push_last}
 use Rattle.pe_arena.proofs.Seen.{put-within, put-last, get_or-past, live-within, cond-test}
@@ -143,8 +143,8 @@ module _ {T : Type 0} where
   live-mark s h p = named-mark (slot_at s h.slot) h.generation (subst IsSome (live-named s h) p)
 
   -- what a write through `get_mut` does to the map of live handles
-  pub write-updates : (s : Slots T) (h : Handle) (v : T) → IsSome (live s h) → Updates s (with_value s h.slot v) h (Some v)
-  write-updates s h v p =
+  pub write_updates : (s : Slots T) (h : Handle) (v : T) → IsSome (live s h) → Updates s (with_value s h.slot v) h (Some v)
+  write_updates s h v p =
       let m = live-mark s h p in
       Updates-write s (with_value s h.slot v) h (record { mark = mark s h.slot; value = Some v }) (Some v)
       (record {
@@ -155,13 +155,13 @@ module _ {T : Type 0} where
       (λ k ne. named-other (record { mark = mark s h.slot; value = Some v }) k (omega arith) ∙ sym (named-other (slot_at s h.slot) k (omega arith)))
 
   -- the marks after an insert
-  pub mark-holding : (s : Slots T) (i : ℕ) (v : T) → IsNext s i → mark (holding s i v) i ≡ mark s i + 1
+  mark-holding : (s : Slots T) (i : ℕ) (v : T) → IsNext s i → mark (holding s i v) i ≡ mark s i + 1
   mark-holding s i v next = ap (λ x. x.mark) ((Writes-holding s i v (next-within s i next)).here)
 
-  pub mark-other-holding : (s : Slots T) (i : ℕ) (v : T) → IsNext s i → (j : ℕ) → j ≢ i → mark (holding s i v) j ≡ mark s j
+  mark-other-holding : (s : Slots T) (i : ℕ) (v : T) → IsNext s i → (j : ℕ) → j ≢ i → mark (holding s i v) j ≡ mark s j
   mark-other-holding s i v next j ne = ap (λ x. x.mark) ((Writes-holding s i v (next-within s i next)).there j ne)
 
-  pub mark-le-holding : (s : Slots T) (i : ℕ) (v : T) → IsNext s i → (j : ℕ) → mark s j ≤ mark (holding s i v) j
+  mark-le-holding : (s : Slots T) (i : ℕ) (v : T) → IsNext s i → (j : ℕ) → mark s j ≤ mark (holding s i v) j
   mark-le-holding s i v next j = elim (same_or_not j i) as (λ _. mark s j ≤ mark (holding s i v) j) [
     | inl e ↦
         let now = ap (mark (holding s i v)) e ∙ mark-holding s i v next in
@@ -173,7 +173,7 @@ module _ {T : Type 0} where
   ]
 
   -- and how many slots were made then
-  pub length-holding : (s : Slots T) (i : ℕ) (v : T) → IsNext s i → length (holding s i v).slots ≤ length s.slots + 1
+  length-holding : (s : Slots T) (i : ℕ) (v : T) → IsNext s i → length (holding s i v).slots ≤ length s.slots + 1
   length-holding s i v next =
       let le = next-within s i next in
       let x : Slot T = record { mark = mark s i + 1; value = Some v } in
@@ -186,16 +186,21 @@ module _ {T : Type 0} where
             omega (arith, n)
       ]
 
-  -- a write through `get_mut` leaves the marks
-  pub mark-with_value : (s : Slots T) (h : Handle) (v : T) → IsSome (live s h) → (j : ℕ) → mark (with_value s h.slot v) j ≡ mark s j
-  mark-with_value s h v p j = elim (same_or_not j h.slot) as (λ _. mark (with_value s h.slot v) j ≡ mark s j) [
-    | inl e ↦
-        ap (mark (with_value s h.slot v)) e
-        ∙ ap (λ (x : Slot T). x.mark) (get_or-set_same s.slots h.slot (record { mark = mark s h.slot; value = Some v }) (record { mark = s.first; value = None }) (live-within s h p))
-        ∙ ap (mark s) (sym e)
-    | inr ne ↦ ap (λ (x : Slot T). x.mark) (get_or-set_other s.slots h.slot j (record { mark = mark s h.slot; value = Some v }) (record { mark = s.first; value = None }) ne)
-  ]
-
   -- a handle whose generation is its slot's mark is not live
-  pub unlive-next : (s : Slots T) (h : Handle) → h.generation ≡ mark s h.slot → live s h ≡ None
+  unlive-next : (s : Slots T) (h : Handle) → h.generation ≡ mark s h.slot → live s h ≡ None
   unlive-next s h e = live-named s h ∙ named-other (slot_at s h.slot) h.generation (omega arith)
+
+  -- the handle that is given was not live
+  pub insert-new : {E : Type 0} (r : Result Handle E) (old : Slots T) → IfOk r (λ h. h.generation ≡ mark old h.slot) → IfOk r (λ h. live old h ≡ None)
+  insert-new (Ok h) old g = unlive-next old h g
+  insert-new (Err x) old g = tt
+
+  -- and its slot gave it last
+  pub insert-given : {E : Type 0} (r : Result Handle E) (old new : Slots T) (v : T) → IfOk r (λ h. IsNext old h.slot) → IfOk r (λ h. h.generation ≡ mark old h.slot) → IfOk r (λ h. new ≡ holding old h.slot v) → IfOk r (λ h. IsGiven old new h)
+  insert-given (Ok h) old new v next g e = subst (λ n. IsGiven old n h) (sym e) (record {
+    last = mark-holding old h.slot v next ∙ ap (λ n. n + 1) (sym g);
+    others = mark-other-holding old h.slot v next;
+    rising = mark-le-holding old h.slot v next;
+    most = length-holding old h.slot v next;
+  })
+  insert-given (Err x) old new v next g e = tt

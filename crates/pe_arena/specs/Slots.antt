@@ -1,5 +1,5 @@
 -- What a contract sees of an arena.
-use Rattle.std.specs.Prelude.{◌≡◌, ◌≢◌, ◌⊎◌, ℕ, ◌+◌, ◌<◌, ◌^◌, ◌==◌, if◌then◌else◌, List, length, [], ◌∷◌, ◌++◌, Option, None, Some, slice_index_or, slice_set, refl}
+use Rattle.std.specs.Prelude.{◌≡◌, ◌≢◌, ◌⊎◌, ℕ, ◌+◌, ◌<◌, ◌≤◌, ◌^◌, ◌==◌, if◌then◌else◌, List, length, [], ◌∷◌, ◌++◌, Option, None, Some, slice_index_or, slice_set, refl}
 use Rattle.std.specs.Coded.{Coded, code_by, coded×, coded_ℕ, coded_list, coded_option}
 use Rattle.pe_arena.specs.declared.handle.Handle.{Handle}
 use Rattle.pe_arena.specs.declared.arena.Insert.{Insert}
@@ -62,6 +62,13 @@ module _ {T : Type 0} where
   pub record Updates (old new : Slots T) (h : Handle) (o : Option T) : Type 0 where
     pub changed : live new h ≡ o
     pub others : (other : Handle) → other ≢ h → live new other ≡ live old other
+
+  -- the slot of the handle gave it last, the mark of each other slot is as before and none falls, and at most one slot was made
+  pub record IsGiven (old new : Slots T) (h : Handle) : Type 0 where
+    pub last : mark new h.slot ≡ h.generation + 1
+    pub others : (i : ℕ) → i ≢ h.slot → mark new i ≡ mark old i
+    pub rising : (i : ℕ) → mark old i ≤ mark new i
+    pub most : length new.slots ≤ length old.slots + 1
 
   -- the slot gave this generation or a later one, and the handle is not live
   pub record IsDead (s : Slots T) (h : Handle) : Type 0 where

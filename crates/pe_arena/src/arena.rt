@@ -1,9 +1,9 @@
 //! The arena.
-ghost use Rattle.std.specs.Prelude.{◌≡◌, ◌≢◌, ◌+◌, ◌-◌, ◌<◌, ◌≤◌, ◌^◌, ◌↔◌, [], ℕ, IsSome, IsTrue, IfOk, IfErr, OnOk, OnErr, OnSome, Some, Err, length, option_copied, vec_len, vec_capacity};
+ghost use Rattle.std.specs.Prelude.{◌≡◌, ◌≢◌, ◌+◌, ◌-◌, ◌<◌, ◌≤◌, ◌^◌, ◌↔◌, [], ℕ, IsSome, IsTrue, IfOk, IfErr, OnOk, OnErr, OnSome, Some, None, Err, length, option_copied, vec_len, vec_capacity};
 ghost use Rattle.std.specs.Option.{option_copied_mut};
 ghost use Rattle.std.specs.Borrow.{sem};
 ghost use Rattle.slab.specs.Slab.{HasRoomFor};
-ghost use Rattle.pe_arena.specs.Slots.{live, mark, holding, emptied, IsFree, HasFree, HasNoFree, IsNext, IsFull, HandsBack, Updates, StayDead};
+ghost use Rattle.pe_arena.specs.Slots.{live, mark, holding, emptied, IsFree, HasFree, HasNoFree, IsNext, IsFull, IsGiven, HandsBack, Updates, StayDead, with_value};
 
 use crate::handle::Handle;
 use slab::Slab;
@@ -132,7 +132,10 @@ impl<T> Arena<T> {
         ensures generation { IfOk result (λ h. h.generation ≡ mark self.old h.slot) }
         ensures slots { IfOk result (λ h. self.new ≡ holding self.old h.slot value) }
 
-        // The handle is live with the value, all other handles are as before, and no dead one lives again.
+        // The handle was not live and is live with the value, all other handles are as before, and no dead
+        // one lives again.
+        ensures new { IfOk result (λ h. live self.old h ≡ None) }
+        ensures given { IfOk result (λ h. IsGiven self.old self.new h) }
         ensures updates { IfOk result (λ h. Updates self.old self.new h (Some value)) }
         ensures dead { StayDead self.old self.new }
 
@@ -213,10 +216,13 @@ impl<T> Arena<T> {
         self.get(h).is_some()
     }
 
-    /// The value of the handle, to write; None where the handle is not live.
+    /// The value of the handle, to write; None where the handle is not live. Whatever is written, all
+    /// other handles are as before.
+    #[tactic(auto, using(crate::proofs::Live::write_updates))]
     pub fn get_mut(&mut self, h: Handle) -> Option<&mut T>
         ensures* lends { sem 𝓛 (lends_get T.row self.entry h result) }
         ensures value { option_copied_mut result ≡ live self.old h }
+        ensures alone { (value : T) → IsSome (live self.old h) → Updates self.old (with_value self.old h.slot value) h (Some value) }
     {
         if self.is_live(h) {
             Some(self.value_mut(h))

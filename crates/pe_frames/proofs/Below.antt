@@ -4,8 +4,7 @@ use Rattle.std.specs.Prelude.{◌==◌, filter, unwrap_or, IsSomeAnd, IfSome}
 use Rattle.std.specs.Option.{option_map}
 use Rattle.std.proofs.lemmas.Bool.Decides.{nat_tests}
 use Rattle.pe_arena.specs.declared.handle.Handle.{Handle}
-use Rattle.pe_arena.specs.Slots.{Slots, live, mark, Updates}
-use Rattle.pe_arena.proofs.Live.{unlive-next}
+use Rattle.pe_arena.specs.Slots.{Slots, live, Updates}
 use Rattle.pe_frames.specs.declared.row.Row.{Row}
 use Rattle.pe_frames.specs.declared.node.Node.{Node}
 use Rattle.pe_frames.specs.declared.node.Place.{Place}
@@ -15,14 +14,12 @@ use Rattle.pe_frames.specs.Links.{young}
 use Rattle.pe_frames.specs.Kept.{kept, above_in, entry_in, entries_in, IsForest}
 use Rattle.pe_frames.proofs.Nodes.{same_handle-Decides, same_or_other}
 use Rattle.pe_frames.proofs.Sizes.{TopRow-live}
+use Rattle.pe_frames.proofs.Pages.{first-push}
+use Rattle.pe_frames.proofs.Lemmas.{some_same}
 
 pub last-push : (ks : List Handle) (k : Handle) → last_of (ks ++ k ∷ []) ≡ Some k
 last-push [] k = refl
 last-push (x ∷ ks) k = ap (λ o. Some (unwrap_or o x)) (last-push ks k)
-
-first-push : (ks : List Handle) (k h : Handle) → first_of (ks ++ k ∷ []) h ≡ first_of ks k
-first-push [] k h = refl
-first-push (x ∷ ks) k h = refl
 
 module _ {D : Type 0} where
   -- the frame of a handle has the handle
@@ -34,9 +31,6 @@ module _ {D : Type 0} where
         ap (λ (y : Entry D). y.handle) (sym same) ∙ (same_handle-Decides x.handle h).0 s
     | inr s ↦ entry-handle es h e (sym (ap (λ b. cond b (Some x) (entry_of es h)) s) ∙ f)
   ]
-    where
-      some_same : {A : Type 0} {a b : A} → Some a ≡ Some b → a ≡ b
-      some_same q = cc
 
   -- the place below a live frame
   pub record IsBelow (es : List (Entry D)) (p : Handle) (place : Place) : Type 0 where
@@ -95,12 +89,12 @@ module _ {D : Type 0} where
     pub room : row.size ≤ 255
 
   pub IsCounted-below : (s mid : Slots (Row D)) (order : List Handle) (pages : ℕ) (is : IsForest s order pages) (p : Handle) (place : Place) → IsBelow (entries_in (kept s order [])) p place → page_size (entries_in (kept s order [])) place.top ≢ 256
-      → (h : Handle) (row : Row D) → h.generation ≡ mark s h.slot → Updates s mid h (Some row) → IsCounted s mid (entries_in (kept s order [])) h place.top
-  IsCounted-below s mid order pages is p place below room h row fresh up =
+      → (h : Handle) (row : Row D) → live s h ≡ None → Updates s mid h (Some row) → IsCounted s mid (entries_in (kept s order [])) h place.top
+  IsCounted-below s mid order pages is p place below room h row new up =
       let top = TopRow-live s order pages is p below.entry below.found in
       let same : place.top ≡ top_of below.entry = ap (λ x. x.top) below.is in
       let before : live s place.top ≡ Some top.row = ap (live s) same ∙ top.found in
-      let apart : place.top ≢ h = (λ q. true≢false (sym (ap is_some before) ∙ ap is_some (ap (live s) q ∙ unlive-next s h fresh))) in
+      let apart : place.top ≢ h = (λ q. true≢false (sym (ap is_some before) ∙ ap is_some (ap (live s) q ∙ new))) in
       let size = top.sized.size in
       let within = top.sized.within in
       let at = ap (page_size (entries_in (kept s order []))) same in

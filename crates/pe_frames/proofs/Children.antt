@@ -8,21 +8,14 @@ use Rattle.pe_frames.specs.Forest.{Entry, same_handle, has_handle, last_of, pare
 use Rattle.pe_frames.specs.Order.{is_named, head_of, after, is_child, children, child_handles}
 use Rattle.pe_frames.specs.Links.{before, young}
 use Rattle.pe_frames.specs.Kept.{Kept, node_at, entry_in, entries_in, AreNodes, AreApart, AreOnce}
-use Rattle.pe_frames.proofs.Nodes.{has-push, same_handle-Decides, same_or_other}
+use Rattle.pe_frames.proofs.Nodes.{has-push, same_handle-Decides, same_or_other, other-turned}
 use Rattle.pe_frames.proofs.Below.{last-push}
-
-true_or_false : (b : Bool) → (b ≡ true) ⊎ (b ≡ false)
-true_or_false true = inl refl
-true_or_false false = inr refl
+use Rattle.std.proofs.lemmas.Bool.{cases_Bool, or_from, or_parts}
 
 -- a handle that is not among these
 pub head-absent : (h : Handle) (ks : List Handle) → has_handle h ks ≡ false → is_named (head_of ks) h ≡ false
 head-absent h [] e = refl
-head-absent h (k ∷ ks) e = (neither (same_handle k h) (has_handle h ks) e).0
-  where
-    neither : (a b : Bool) → (a || b) ≡ false → (a ≡ false) × (b ≡ false)
-    neither true b e = absurd (true≢false e)
-    neither false b e = (refl, e)
+head-absent h (k ∷ ks) e = (or_parts (same_handle k h) (has_handle h ks) e).0
 
 pub after-absent : (h : Handle) (ks : List Handle) → has_handle h ks ≡ false → after h ks ≡ None
 after-absent h [] e = refl
@@ -35,12 +28,8 @@ after-absent h (k ∷ ks) e = by_test (same_handle k h) e (after-absent h ks)
 pub before-absent : (h : Handle) (ks : List Handle) → has_handle h ks ≡ false → before h ks ≡ None
 before-absent h [] e = refl
 before-absent h (k ∷ ks) e =
-    let parts = neither (same_handle k h) (has_handle h ks) e in
+    let parts = or_parts (same_handle k h) (has_handle h ks) e in
     ap (λ b. cond b (Some k) (before h ks)) (head-absent h ks parts.1) ∙ before-absent h ks parts.1
-  where
-    neither : (a b : Bool) → (a || b) ≡ false → (a ≡ false) × (b ≡ false)
-    neither true b e = absurd (true≢false e)
-    neither false b e = (refl, e)
 
 -- the list, turned
 abbrev pub turned : List Handle → List Handle
@@ -57,32 +46,19 @@ has-turned k (x ∷ ks) = has-push k x (turned ks) ∙ ap (λ b. b || same_handl
     swap false true = refl
     swap false false = refl
 
-or_false : (a b : Bool) → a ≡ false → b ≡ false → (a || b) ≡ false
-or_false a b p q = ap (λ x. x || b) p ∙ q
-
-neither_of : (a b : Bool) → (a || b) ≡ false → (a ≡ false) × (b ≡ false)
-neither_of true b e = absurd (true≢false e)
-neither_of false b e = (refl, e)
-
-same-turn : (a b : Handle) → same_handle a b ≡ false → same_handle b a ≡ false
-same-turn a b e = elim (same_or_other b a) as (λ _. same_handle b a ≡ false) [
-  | inl t ↦ absurd (true≢false (sym ((same_handle-Decides a b).1 (sym ((same_handle-Decides b a).0 t))) ∙ e))
-  | inr f ↦ f
-]
-
 once-push : (ks : List Handle) (k : Handle) → AreOnce ks → has_handle k ks ≡ false → AreOnce (ks ++ k ∷ [])
 once-push [] k once e = (refl, tt)
 once-push (x ∷ ks) k once e =
-    let parts = neither_of (same_handle x k) (has_handle k ks) e in
-    (has-push x k ks ∙ or_false (has_handle x ks) (same_handle k x) once.0 (same-turn x k parts.0), once-push ks k once.1 parts.1)
+    let parts = or_parts (same_handle x k) (has_handle k ks) e in
+    (has-push x k ks ∙ or_from (has_handle x ks) (same_handle k x) once.0 (other-turned x k parts.0), once-push ks k once.1 parts.1)
 
 pub once-turned : (ks : List Handle) → AreOnce ks → AreOnce (turned ks)
 once-turned [] once = tt
 once-turned (k ∷ ks) once = once-push (turned ks) k (once-turned ks once.1) (has-turned k ks ∙ once.0)
 
 last-absent : (h : Handle) (ks : List Handle) (k : Handle) → has_handle h (k ∷ ks) ≡ false → is_named (last_of (k ∷ ks)) h ≡ false
-last-absent h [] k e = (neither_of (same_handle k h) false e).0
-last-absent h (x ∷ ks) k e = last-absent h ks x (neither_of (same_handle k h) (has_handle h (x ∷ ks)) e).1
+last-absent h [] k e = (or_parts (same_handle k h) false e).0
+last-absent h (x ∷ ks) k e = last-absent h ks x (or_parts (same_handle k h) (has_handle h (x ∷ ks)) e).1
 
 -- what stands behind a handle, once another is put last
 after-push : (ks : List Handle) (k x : Handle) → AreOnce ks → after k (ks ++ x ∷ []) ≡ cond (is_named (last_of ks) k) (Some x) (after k ks)
@@ -178,7 +154,7 @@ module _ {D : Type 0} where
   -- each of the children names its parent
   pub born : (xs : List (Kept D)) (p l : Handle) → AreNodes xs → AreApart xs → has_handle l (young (entries_in xs) p) ≡ true → IsBornOf xs p l
   born [] p l are apart e = absurd (true≢false (sym e))
-  born (x ∷ xs) p l are apart e = elim (true_or_false (is_child p (entry_in (entries_in xs) x))) as (λ _. IsBornOf (x ∷ xs) p l) [
+  born (x ∷ xs) p l are apart e = elim (cases_Bool (is_child p (entry_in (entries_in xs) x))) as (λ _. IsBornOf (x ∷ xs) p l) [
     | inl t ↦ first t (λ q. born xs p l are.1 apart.1 q) (same_or_other x.handle l) (sym (ap (λ b. has_handle l (cond b (x.handle ∷ young (entries_in xs) p) (young (entries_in xs) p))) t) ∙ e)
     | inr f ↦ older (born xs p l are.1 apart.1 (sym (ap (λ b. has_handle l (cond b (x.handle ∷ young (entries_in xs) p) (young (entries_in xs) p))) f) ∙ e))
   ]

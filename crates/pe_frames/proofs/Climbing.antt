@@ -9,19 +9,18 @@ use Rattle.pe_frames.specs.Forest.{Entry, same_handle, has_handle, last_of, path
 use Rattle.pe_frames.specs.Order.{head_of, after, children, child_handles, handles_under}
 use Rattle.pe_frames.specs.Links.{before, siblings}
 use Rattle.pe_frames.specs.Kept.{AreOnce, standing_in}
-use Rattle.pe_frames.proofs.Nodes.{same_handle-Decides}
-use Rattle.pe_frames.proofs.Pages.{not_same}
+use Rattle.pe_frames.proofs.Nodes.{same_handle-Decides, has-append}
+use Rattle.std.proofs.lemmas.Bool.{false_from_ne_true}
 use Rattle.pe_frames.proofs.Below.{entry-handle}
 use Rattle.pe_frames.proofs.Children.{after-absent, first-child, later-child}
 use Rattle.pe_frames.proofs.Standings.{StandsAt}
 use Rattle.pe_frames.proofs.Tree.{IsParent, IsTree}
-use Rattle.pe_frames.proofs.TreeOrder.{walk, walks, walk-is, has-append}
+use Rattle.pe_frames.proofs.TreeOrder.{walk, walks, walk-is}
 use Rattle.pe_frames.proofs.Subtrees.{IsUp, up-of, root-live, under-same, under-other}
 use Rattle.pe_frames.proofs.Under.{IsUnder, handles-are, handles-live, handles-once, its-own}
 use Rattle.pe_frames.proofs.Walking.{after-split, beyond, beyond-root, beyond-later, beyond-none, next-first, next-none}
-
-some_same : {A : Type 0} {a b : A} → Some a ≡ Some b → a ≡ b
-some_same q = cc
+use Rattle.std.proofs.Math.Bool.{or-true}
+use Rattle.pe_frames.proofs.Lemmas.{some_same}
 
 -- what a test of two handles says
 pub differ : (r b : Bool) → r ≡ not b → r ≡ true → b ≡ false
@@ -80,14 +79,14 @@ module _ {D : Type 0} where
   parent-stands es k here at = ap (option_and_then parent_of) at.found ∙ sym (ap (λ x. x.parent) at.is)
 
   -- a live frame and its parent
-  record Steps (es : List (Entry D)) (k p : Handle) : Type 0 where
-    entry : Entry D
-    found : entry_of es k ≡ Some entry
-    parent : parent_of entry ≡ Some p
-    up : IsParent es p entry
+  pub record Steps (es : List (Entry D)) (k p : Handle) : Type 0 where
+    pub entry : Entry D
+    pub found : entry_of es k ≡ Some entry
+    pub parent : parent_of entry ≡ Some p
+    pub up : IsParent es p entry
 
   module _ (es : List (Entry D)) (tree : IsTree es DEPTH_LIMIT) where
-    steps-of : (k p : Handle) → option_and_then parent_of (entry_of es k) ≡ Some p → Steps es k p
+    pub steps-of : (k p : Handle) → option_and_then parent_of (entry_of es k) ≡ Some p → Steps es k p
     steps-of k p q = by_entry (entry_of es k) refl q
       where
         by_entry : (o : Option (Entry D)) → entry_of es k ≡ o → option_and_then parent_of o ≡ Some p → Steps es k p
@@ -128,7 +127,7 @@ module _ {D : Type 0} where
 
     -- nothing stands behind a frame that is not within the root
     pub after-outside : (root k : Handle) → (IsWithin es root k → ⊥) → after k (handles_under es root) ≡ None
-    after-outside root k never = after-absent k (handles_under es root) (not_same (has_handle k (handles_under es root)) (λ t. never (within-of es root k (handles-live es tree root k t))))
+    after-outside root k never = after-absent k (handles_under es root) (false_from_ne_true (has_handle k (handles_under es root)) (λ t. never (within-of es root k (handles-live es tree root k t))))
 
     -- the frames of a root and of what is within it
     record Within (root k : Handle) : Type 0 where
@@ -278,11 +277,7 @@ module _ {D : Type 0} where
           ap (has_handle at) so_far.is
           ∙ has-append at so_far.front (at ∷ so_far.back)
           ∙ ap (λ b. has_handle at so_far.front || (b || has_handle at so_far.back)) ((same_handle-Decides at at).1 refl)
-          ∙ or_true (has_handle at so_far.front)))
-        where
-          or_true : (b : Bool) → (b || true) ≡ true
-          or_true true = refl
-          or_true false = refl
+          ∙ or-true (has_handle at so_far.front)))
 
       behind-listed : after at (handles_under es root) ≡ head_of so_far.back
       behind-listed = ap (after at) so_far.is ∙ after-split so_far.front at so_far.back (subst AreOnce so_far.is (handles-once es tree root))

@@ -12,7 +12,8 @@ use Rattle.pe_frames.specs.Order.{is_named, after, handles_under, closed}
 use Rattle.pe_frames.specs.Links.{before, siblings, links_in, at, unlinked, smaller, Rewrites, Removes}
 use Rattle.pe_frames.specs.Kept.{kept, entries_in, HasLinks, Sweeps, forest_in, IsForest}
 use Rattle.pe_frames.proofs.Nodes.{same_handle-Decides, same_or_other, found-live, entries-nodes}
-use Rattle.pe_frames.proofs.Pages.{not_same, top-found}
+use Rattle.pe_frames.proofs.Pages.{top-found}
+use Rattle.std.proofs.lemmas.Bool.{false_from_ne_true}
 use Rattle.pe_frames.proofs.Sizes.{TopRow-live}
 use Rattle.pe_frames.proofs.Below.{entry-handle}
 use Rattle.pe_frames.proofs.Upward.{above-none}
@@ -23,14 +24,8 @@ use Rattle.pe_frames.proofs.Cuts.{frame-of, IsForest-cut, entries-cut, StayDead-
 use Rattle.pe_frames.proofs.Without.{after-itself, before-itself}
 use Rattle.pe_frames.proofs.Within.{goes-under, root-goes, parent-stays, child-goes, top-goes, page-goes, embedder-of}
 use Rattle.pe_frames.proofs.Unlinked.{at-keeps, unlinked-node, unlinked-size, child-listed, siblings-once, after-has, before-has, links-closed}
-use Rattle.pe_frames.proofs.Leaving.{Changes, stayed, Leaves, page-less, pages-same, pages-one, IsCut-left, sized-left}
-
-some_same : {A : Type 0} {a b : A} → Some a ≡ Some b → a ≡ b
-some_same e = cc
-
-if_each : {A : Type 0} (P : A → Type 0) (o : Option A) → ((x : A) → o ≡ Some x → P x) → IfSome o P
-if_each P None f = tt
-if_each P (Some x) f = f x refl
+use Rattle.pe_frames.proofs.Leaving.{Changes, stayed, Leaves, page-less, pages-same, pages-one, IsCut-left, sized-left, length-left}
+use Rattle.pe_frames.proofs.Lemmas.{if_each, some_same}
 
 named-of : (o : Option Handle) (k : Handle) → o ≡ Some k → is_named o k ≡ true
 named-of o k e = ap (λ x. is_named x k) e ∙ (same_handle-Decides k k).1 refl
@@ -62,7 +57,7 @@ module _ {D : Type 0} where
           once = handles-once es tree h;
           alive = λ k t. (let l = handles-live es tree h k t in ap is_some l.found);
           agree = λ x f. ap not (sym (goes-under es tree h e found x.handle x f));
-          rooted = λ k x p f q g. sym (child-goes es tree h e found k x p f q (not_same (same_handle k h) (λ t. true≢false (sym (root-goes es tree h e found) ∙ ap (λ j. has_handle j (handles_under es h)) (sym ((same_handle-Decides k h).0 t)) ∙ g)))) ∙ g;
+          rooted = λ k x p f q g. sym (child-goes es tree h e found k x p f q (false_from_ne_true (same_handle k h) (λ t. true≢false (sym (root-goes es tree h e found) ∙ ap (λ j. has_handle j (handles_under es h)) (sym ((same_handle-Decides k h).0 t)) ∙ g)))) ∙ g;
           page = λ x f t. page-goes es tree h e found x.handle x f t;
         }
 
@@ -119,7 +114,7 @@ module _ {D : Type 0} where
         let es = entries_in (kept s order []) in
         let has = top-found (kept s order []) is.nodes is.apart h e found in
         top-goes es (tree-forest s order pages is) h e found (top_of e) has.top has.found (ap last_of has.bare)
-        ∙ not_same (same_handle (top_of e) h) (λ t.
+        ∙ false_from_ne_true (same_handle (top_of e) h) (λ t.
         let same : has.top ≡ e = some_same (sym has.found ∙ ap (entry_of es) ((same_handle-Decides (top_of e) h).0 t) ∙ found) in
         true≢false (sym (ap is_some (sym (ap last_of (ap (λ (y : Entry D). y.above) (sym same) ∙ has.bare)) ∙ q))))
 
@@ -161,7 +156,7 @@ module _ {D : Type 0} where
         by_parent : (o : Option Handle) → parent_of e ≡ o → page_count (entries_in (kept s order [])) ≡ page_count (filter (λ x. not (is_under h x)) (entries_in (kept s order []))) + cond (is_none o) 1 0
         by_parent None q = pages-one s order pages is (handles_under (entries_in (kept s order [])) h) (λ x. not (is_under h x)) (top_of e) leaves-closed h (ap is_some found) (one-top q)
         by_parent (Some p) q =
-            let same = pages-same s order pages is (handles_under (entries_in (kept s order [])) h) (λ x. not (is_under h x)) (top_of e) leaves-closed (λ x f t. not_same (is_top x) (λ top.
+            let same = pages-same s order pages is (handles_under (entries_in (kept s order [])) h) (λ x. not (is_under h x)) (top_of e) leaves-closed (λ x f t. false_from_ne_true (is_top x) (λ top.
             let xe = below-top x f t top in
             true≢false (sym (ap is_some (sym (top-none x.above top) ∙ ap (λ (y : Entry D). parent_of y) xe ∙ q))))) in
             omega (arith, same)
@@ -257,7 +252,7 @@ module _ {D : Type 0} where
             where
               by_parent : (o : Option Handle) → parent_of e ≡ o → is_named (cond (is_none o) None (Some (top_of e))) k ≡ same_handle (top_of e) k
               by_parent (Some p) q = refl
-              by_parent None q = sym (not_same (same_handle (top_of e) k) (λ t.
+              by_parent None q = sym (false_from_ne_true (same_handle (top_of e) k) (λ t.
                   let kh = sym ((same_handle-Decides (top_of e) k).0 t) ∙ top-alone q in
                   true≢false (sym (ap (λ j. has_handle j (handles_under (entries_in (kept s order [])) h)) kh ∙ root-goes (entries_in (kept s order [])) (tree-forest s order pages is) h e found) ∙ g)))
 
@@ -268,7 +263,7 @@ module _ {D : Type 0} where
               let n = length (handles_under es h) in
               let was = stayed s t (λ j. has_handle j (handles_under es h)) (λ j r. at (page_left e) (smaller n) j (unlinked l (parent_of e) j r)) changes-closed k x f in
               let fr = frame-of (entry_of es k) was.row.node (sym (found-live s order k is.listed is.nodes) ∙ ap (option_map (λ r. r.node)) was.found) in
-              let ne : same_handle h k ≡ false = not_same (same_handle h k) (λ t.
+              let ne : same_handle h k ≡ false = false_from_ne_true (same_handle h k) (λ t.
               true≢false (sym (root-goes es (tree-forest s order pages is) h e found) ∙ ap (λ j. has_handle j (handles_under es h)) ((same_handle-Decides h k).0 t) ∙ was.here)) in
               subst (HasLinks (filter (λ y. not (is_under h y)) es) k) was.is
               (shrunk-links (filter (λ y. not (is_under h y)) es) (is_named (page_left e) k) n k (unlinked l (parent_of e) k was.row)
@@ -277,6 +272,13 @@ module _ {D : Type 0} where
               shrunk-links : (es : List (Entry D)) (b : Bool) (n : ℕ) (k : Handle) (r : Row D) → HasLinks es k r → HasLinks es k (cond b (smaller n r) r)
               shrunk-links es true n k r has = has
               shrunk-links es false n k r has = has
+
+          pub length-closed : length (kept s order []) ≡ length (kept t order []) + length (handles_under (entries_in (kept s order [])) h)
+          length-closed =
+              let es = entries_in (kept s order []) in
+              let ks = handles_under es h in
+              let l = links_in es h (parent_of e) in
+              length-left s order pages is ks (λ x. not (is_under h x)) (top_of e) leaves-closed t (λ k r. at (page_left e) (smaller (length ks)) k (unlinked l (parent_of e) k r)) changes-closed
 
           module _ (swept : List Handle) (sweeps : Sweeps t order swept) where
             pub IsForest-closed : (count : ℕ) → count + cond (is_none (parent_of e)) 1 0 ≡ pages → IsForest t swept count

@@ -9,12 +9,12 @@ use Rattle.pe_frames.specs.declared.row.Standing.{Standing}
 use Rattle.pe_frames.specs.Forest.{Forest, Entry, same_handle, has_handle, entry_of, IsDead, StayDead}
 use Rattle.pe_frames.specs.Order.{handles_under, docs_under, closed}
 use Rattle.pe_frames.specs.Links.{at, unlinked, smaller, docs_at, Rewrites, Removes}
-use Rattle.pe_frames.specs.Kept.{kept, entries_in, standing_in, AreOnce, Sweeps, forest_in, IsForest}
+use Rattle.pe_frames.specs.Kept.{kept, entries_in, standing_in, AreOnce, Sweeps, IsSwept, forest_in, IsForest}
 use Rattle.pe_frames.proofs.Nodes.{same_handle-Decides}
-use Rattle.pe_frames.proofs.Pages.{not_same}
+use Rattle.std.proofs.lemmas.Bool.{false_from_ne_true}
 use Rattle.pe_frames.proofs.Standings.{stands-at}
 use Rattle.pe_frames.proofs.Under.{tree-forest, handles-once}
-use Rattle.pe_frames.proofs.Closed.{page_left, few-go, pages-gone, earlier-lives, later-lives, parent-lives, page-lives, page-large, IsForest-closed, entries-closed, StayDead-closed, IsDead-closed}
+use Rattle.pe_frames.proofs.Closed.{page_left, few-go, pages-gone, earlier-lives, later-lives, parent-lives, page-lives, page-large, IsForest-closed, entries-closed, StayDead-closed, IsDead-closed, length-closed}
 use Rattle.pe_frames.proofs.Documents.{docs-same, docs-below, before-join}
 
 module _ {D : Type 0} where
@@ -73,7 +73,7 @@ module _ {D : Type 0} where
       -- the documents of all, in tree order
       pub docs-left : docs_at s (h ∷ []) ++ docs_at one below ≡ docs_under (entries_in (kept s order [])) h
       docs-left =
-          ap (λ ds. docs_at s (h ∷ []) ++ ds) (docs-same s one below (λ k t. taken.rows k ∙ ap (λ b. cond (b || false) None (live s k)) (not_same (same_handle h k) (λ q. true≢false (sym t ∙ ap (λ j. has_handle j below) (sym ((same_handle-Decides h k).0 q)) ∙ root-once)))))
+          ap (λ ds. docs_at s (h ∷ []) ++ ds) (docs-same s one below (λ k t. taken.rows k ∙ ap (λ b. cond (b || false) None (live s k)) (false_from_ne_true (same_handle h k) (λ q. true≢false (sym t ∙ ap (λ j. has_handle j below) (sym ((same_handle-Decides h k).0 q)) ∙ root-once)))))
           ∙ before-join (live s h) (docs_at s below)
           ∙ ap (docs_at s) leaves.all
           ∙ docs-below s order pages is h
@@ -96,19 +96,28 @@ module _ {D : Type 0} where
             (subst (λ m. IfSome (page_left leaves.entry) (λ k. IfSome (live three k) (λ r. m ≤ r.size))) (sym many-so)
             (page-large s order pages is h leaves.entry leaves.found below leaves.all one two taken emptied three mended-so))
 
-        module _ (t : Slots (Row D)) (shrunk : Rewrites three t (at page (smaller n))) (swept : List Handle) (sweeps : Sweeps t order swept) where
+        module _ (t : Slots (Row D)) (shrunk : Rewrites three t (at page (smaller n))) where
           shrunk-so : Rewrites three t (at (page_left leaves.entry) (smaller (length (handles_under (entries_in (kept s order [])) h))))
           shrunk-so = subst (λ m. Rewrites three t (at (page_left leaves.entry) (smaller m))) many-so (subst (λ o. Rewrites three t (at o (smaller n))) page-so shrunk)
 
-          pub IsForest-left : (count : ℕ) → count + cond (is_none here.parent) 1 0 ≡ pages → IsForest t swept count
-          IsForest-left count less = IsForest-closed s order pages is h leaves.entry leaves.found below leaves.all one two taken emptied three mended-so t shrunk-so swept sweeps count
-              (ap (λ (x : Standing). count + cond (is_none x.parent) 1 0) (sym leaves.here_is) ∙ less)
+          -- the dead handles, before the list is swept
+          pub dead-left : (dead : ℕ) → IsSwept s order dead → length order ≡ length (kept t order []) + (dead + n)
+          dead-left dead was =
+              let counted = was.counted in
+              let fewer = length-closed s order pages is h leaves.entry leaves.found below leaves.all one two taken emptied three mended-so t shrunk-so in
+              let m = many-so in
+              omega (arith, counted, fewer, m)
 
-          pub entries-left : (forest_in t swept).entries ≡ closed h (forest_in s order).entries
-          entries-left = entries-closed s order pages is h leaves.entry leaves.found below leaves.all one two taken emptied three mended-so t shrunk-so swept sweeps
+          module _ (swept : List Handle) (sweeps : Sweeps t order swept) where
+            pub IsForest-left : (count : ℕ) → count + cond (is_none here.parent) 1 0 ≡ pages → IsForest t swept count
+            IsForest-left count less = IsForest-closed s order pages is h leaves.entry leaves.found below leaves.all one two taken emptied three mended-so t shrunk-so swept sweeps count
+                (ap (λ (x : Standing). count + cond (is_none x.parent) 1 0) (sym leaves.here_is) ∙ less)
 
-          pub StayDead-left : StayDead (forest_in s order) (forest_in t swept)
-          StayDead-left = StayDead-closed s order pages is h leaves.entry leaves.found below leaves.all one two taken emptied three mended-so t shrunk-so swept sweeps
+            pub entries-left : (forest_in t swept).entries ≡ closed h (forest_in s order).entries
+            entries-left = entries-closed s order pages is h leaves.entry leaves.found below leaves.all one two taken emptied three mended-so t shrunk-so swept sweeps
 
-          pub IsDead-left : (k : Handle) → IsSome (entry_of (forest_in s order).entries k) → entry_of (forest_in t swept).entries k ≡ None → IsDead (forest_in t swept) k
-          IsDead-left = IsDead-closed s order pages is h leaves.entry leaves.found below leaves.all one two taken emptied three mended-so t shrunk-so swept sweeps
+            pub StayDead-left : StayDead (forest_in s order) (forest_in t swept)
+            StayDead-left = StayDead-closed s order pages is h leaves.entry leaves.found below leaves.all one two taken emptied three mended-so t shrunk-so swept sweeps
+
+            pub IsDead-left : (k : Handle) → IsSome (entry_of (forest_in s order).entries k) → entry_of (forest_in t swept).entries k ≡ None → IsDead (forest_in t swept) k
+            IsDead-left = IsDead-closed s order pages is h leaves.entry leaves.found below leaves.all one two taken emptied three mended-so t shrunk-so swept sweeps

@@ -1,5 +1,5 @@
 -- Frames that were cut off with all below them.
-use Rattle.std.proofs.Common.{◌≡◌, ◌⊎◌, inl, inr, ℕ, ◌+◌, ◌≤◌, Bool, true, false, cond, ◌||◌, ◌&&◌, List, [], ◌∷◌, length, map, get_or, Option, None, Some, IsSome, is_some, refl, sym, ap, subst, ◌∙◌, arith, true≢false}
+use Rattle.std.proofs.Common.{◌≡◌, inl, inr, ℕ, ◌+◌, ◌≤◌, Bool, true, false, cond, ◌||◌, ◌&&◌, List, [], ◌∷◌, length, map, get_or, Option, None, Some, IsSome, is_some, refl, sym, ap, subst, ◌∙◌, arith, true≢false}
 use Rattle.std.specs.Prelude.{filter, not, unwrap_or}
 use Rattle.std.specs.Option.{option_map}
 use Rattle.std.proofs.Math.ListN.{get_or-map}
@@ -10,17 +10,13 @@ use Rattle.pe_frames.specs.declared.node.Node.{Node}
 use Rattle.pe_frames.specs.Forest.{Entry, path, same_handle, has_handle, entry_of, node_in, parent_of, page_count, mark_of, IsDead, StayDead}
 use Rattle.pe_frames.specs.Links.{SameMarks}
 use Rattle.pe_frames.specs.Kept.{Kept, joined, kept, shown, node_at, above_in, entry_in, entries_in, AreNodes, AreApart, AreOnce, IsSized, HasLinks, Sweeps, forest_in, IsForest}
-use Rattle.pe_frames.proofs.Nodes.{same_handle-Decides, same_or_other, entries-nodes, found-live}
-use Rattle.pe_frames.proofs.Pages.{entry-absent, not_same}
+use Rattle.pe_frames.proofs.Nodes.{same_handle-Decides, same_or_other, entries-nodes, found-live, other-turned}
+use Rattle.pe_frames.proofs.Pages.{entry-absent}
+use Rattle.std.proofs.lemmas.Bool.{false_from_ne_true, cases_Bool}
 use Rattle.pe_frames.proofs.Tree.{Each}
 use Rattle.pe_frames.proofs.Writes.{mark-kept, slots-kept}
-
-some_same : {A : Type 0} {a b : A} → Some a ≡ Some b → a ≡ b
-some_same e = cc
-
-neither : (a b : Bool) → (a || b) ≡ false → (a ≡ false) × (b ≡ false)
-neither true b e = absurd (true≢false e)
-neither false b e = (refl, e)
+use Rattle.std.proofs.Math.Bool.{or-true}
+use Rattle.pe_frames.proofs.Lemmas.{some_same}
 
 -- two tests that agree on each of the list keep the same
 pub filter-agree : {A : Type 0} (p q : A → Bool) (xs : List A) → Each (λ x. p x ≡ q x) xs → filter p xs ≡ filter q xs
@@ -65,7 +61,7 @@ module _ {D : Type 0} where
   )
     where
       other : (e : Entry D) → entry_of (entries_in xs) e.handle ≡ Some e → same_handle x.handle e.handle ≡ false
-      other e f = not_same (same_handle x.handle e.handle) (λ t.
+      other e f = false_from_ne_true (same_handle x.handle e.handle) (λ t.
           true≢false (sym (ap is_some f) ∙ ap is_some (ap (entry_of (entries_in xs)) (sym ((same_handle-Decides x.handle e.handle).0 t)) ∙ entry-absent xs x.handle are.1 apart.0)))
 
   -- one handle is listed once
@@ -78,19 +74,16 @@ module _ {D : Type 0} where
         let here = ap (λ b. length (cond b (entry_in (entries_in xs) x ∷ filter (λ e. same_handle k e.handle) (entries_in xs)) (filter (λ e. same_handle k e.handle) (entries_in xs)))) ((same_handle-Decides k x.handle).1 (sym xk)) in
         omega (arith, none, here)
     | inr f ↦
-        let there = ap (λ b. length (cond b (entry_in (entries_in xs) x ∷ filter (λ e. same_handle k e.handle) (entries_in xs)) (filter (λ e. same_handle k e.handle) (entries_in xs)))) (turned x.handle k f) in
+        let there = ap (λ b. length (cond b (entry_in (entries_in xs) x ∷ filter (λ e. same_handle k e.handle) (entries_in xs)) (filter (λ e. same_handle k e.handle) (entries_in xs)))) (other-turned x.handle k f) in
         there ∙ count-one xs are.1 apart.1 k (subst IsSome (ap (λ b. cond b (Some (entry_in (entries_in xs) x)) (entry_of (entries_in xs) k)) f) p)
   ]
     where
-      turned : (a b : Handle) → same_handle a b ≡ false → same_handle b a ≡ false
-      turned a b e = not_same (same_handle b a) (λ t. true≢false (sym ((same_handle-Decides a b).1 (sym ((same_handle-Decides b a).0 t))) ∙ e))
-
       count-absent : (k : Handle) (es : List (Entry D)) → entry_of es k ≡ None → length (filter (λ e. same_handle k e.handle) es) ≡ 0
       count-absent k [] e = refl
       count-absent k (y ∷ es) e = elim (same_or_other y.handle k) as (λ _. length (cond (same_handle k y.handle) (y ∷ filter (λ e. same_handle k e.handle) es) (filter (λ e. same_handle k e.handle) es)) ≡ 0) [
         | inl t ↦ absurd (true≢false (ap is_some (sym (ap (λ b. cond b (Some y) (entry_of es k)) t) ∙ e)))
         | inr f ↦
-            ap (λ b. length (cond b (y ∷ filter (λ e. same_handle k e.handle) es) (filter (λ e. same_handle k e.handle) es))) (turned y.handle k f)
+            ap (λ b. length (cond b (y ∷ filter (λ e. same_handle k e.handle) es) (filter (λ e. same_handle k e.handle) es))) (other-turned y.handle k f)
             ∙ count-absent k es (sym (ap (λ b. cond b (Some y) (entry_of es k)) f) ∙ e)
       ]
 
@@ -99,15 +92,11 @@ module _ {D : Type 0} where
   count-named xs are apart [] once alive = count-none (entries_in xs)
   count-named xs are apart (k ∷ ks) once alive =
       let one = count-one xs are apart k (alive k (ap (λ b. b || has_handle k ks) ((same_handle-Decides k k).1 refl))) in
-      let rest = count-named xs are apart ks once.1 (λ j t. alive j (ap (λ b. same_handle k j || b) t ∙ or_true (same_handle k j))) in
+      let rest = count-named xs are apart ks once.1 (λ j t. alive j (ap (λ b. same_handle k j || b) t ∙ or-true (same_handle k j))) in
       let both = count-either (λ (e : Entry D). same_handle k e.handle) (λ (e : Entry D). has_handle e.handle ks) (entries_in xs)
       (each-live (λ e. (same_handle k e.handle && has_handle e.handle ks) ≡ false) xs are apart (λ e f. not_both e.handle)) in
       omega (arith, one, rest, both)
     where
-      or_true : (b : Bool) → (b || true) ≡ true
-      or_true true = refl
-      or_true false = refl
-
       not_both : (j : Handle) → (same_handle k j && has_handle j ks) ≡ false
       not_both j = elim (same_or_other k j) as (λ _. (same_handle k j && has_handle j ks) ≡ false) [
         | inl t ↦ ap (λ b. b && has_handle j ks) t ∙ ap (λ x. has_handle x ks) (sym ((same_handle-Decides k j).0 t)) ∙ once.0
@@ -158,21 +147,17 @@ module _ {D : Type 0} where
     rooted-tail x xs none rooted k n p found = rooted k n p (ap (λ b. cond b (Some x.node) (node_at xs k)) other ∙ found)
       where
         other : same_handle x.handle k ≡ false
-        other = not_same (same_handle x.handle k) (λ t. true≢false (sym (ap is_some found) ∙ ap is_some (ap (node_at xs) (sym ((same_handle-Decides x.handle k).0 t)) ∙ none)))
+        other = false_from_ne_true (same_handle x.handle k) (λ t. true≢false (sym (ap is_some found) ∙ ap is_some (ap (node_at xs) (sym ((same_handle-Decides x.handle k).0 t)) ∙ none)))
 
     rooted-head : (x : Kept D) (xs : List (Kept D)) → Rooted (x ∷ xs) → gone x.handle ≡ false → (p : Handle) → x.node.parent ≡ Some p → gone p ≡ false
     rooted-head x xs rooted g p e = rooted x.handle x.node p (ap (λ b. cond b (Some x.node) (node_at xs x.handle)) ((same_handle-Decides x.handle x.handle).1 refl)) e g
-
-    true_or_false : (b : Bool) → (b ≡ true) ⊎ (b ≡ false)
-    true_or_false true = inl refl
-    true_or_false false = inr refl
 
     -- the frames of what is kept still are those that stay
     pub entries-stay : (xs : List (Kept D)) → AreApart xs → Rooted xs → Each (λ e. stays e ≡ not (gone e.handle)) (entries_in xs) → entries_in (filter (λ x. not (gone x.handle)) xs) ≡ filter stays (entries_in xs)
     entries-stay [] apart rooted each = refl
     entries-stay (x ∷ xs) apart rooted each =
         let rest = entries-stay xs apart.1 (rooted-tail x xs apart.0 rooted) each.1 in
-        elim (true_or_false (gone x.handle)) as (λ _. entries_in (cond (not (gone x.handle)) (x ∷ filter (λ y. not (gone y.handle)) xs) (filter (λ y. not (gone y.handle)) xs)) ≡ cond (stays (entry_in (entries_in xs) x)) (entry_in (entries_in xs) x ∷ filter stays (entries_in xs)) (filter stays (entries_in xs))) [
+        elim (cases_Bool (gone x.handle)) as (λ _. entries_in (cond (not (gone x.handle)) (x ∷ filter (λ y. not (gone y.handle)) xs) (filter (λ y. not (gone y.handle)) xs)) ≡ cond (stays (entry_in (entries_in xs) x)) (entry_in (entries_in xs) x ∷ filter stays (entries_in xs)) (filter stays (entries_in xs))) [
           | inl g ↦
               ap (λ b. entries_in (cond (not b) (x ∷ filter (λ y. not (gone y.handle)) xs) (filter (λ y. not (gone y.handle)) xs))) g
               ∙ rest
@@ -245,6 +230,15 @@ module _ {D : Type 0} where
     pub rooted : (k : Handle) (e : Entry D) (p : Handle) → entry_of (entries_in (kept s order [])) k ≡ Some e → parent_of e ≡ Some p → gone k ≡ false → gone p ≡ false
     pub same : SameMarks s t
 
+  -- a frame for each that is kept
+  pub length-entries : (xs : List (Kept D)) → length (entries_in xs) ≡ length xs
+  length-entries [] = refl
+  length-entries (x ∷ xs) = let rest = length-entries xs in omega (arith, rest)
+
+  -- a list that is not swept
+  pub Sweeps-none : (s : Slots (Row D)) (order : List Handle) → Sweeps s order order
+  Sweeps-none s order = record { same = refl; listed = λ h p q. q; known = λ h q. q }
+
   -- a live frame of a node
   pub record FrameOf (o : Option (Entry D)) (n : Node D) : Type 0 where
     pub entry : Entry D
@@ -293,6 +287,10 @@ module _ {D : Type 0} where
 
     entries-kept : entries_in (kept t swept []) ≡ filter stays (entries_in (kept s order []))
     entries-kept = ap entries_in kept-cut ∙ entries-stay gone stays (kept s order []) is.apart all-rooted each-agrees
+
+    -- as many are kept
+    pub length-cut : length (kept t swept []) ≡ length (filter stays (entries_in (kept s order [])))
+    length-cut = sym (length-entries (kept t swept [])) ∙ ap length entries-kept
 
     -- the frames are those that stay
     pub entries-cut : (forest_in t swept).entries ≡ filter stays (forest_in s order).entries

@@ -1,5 +1,5 @@
 -- The documents of the frames within a subtree.
-use Rattle.std.proofs.Common.{◌≡◌, ℕ, Bool, true, false, ◌||◌, List, [], ◌∷◌, ◌++◌, map, Option, None, Some, is_some, refl, sym, ap, ◌∙◌, true≢false}
+use Rattle.std.proofs.Common.{◌≡◌, ℕ, true, ◌||◌, List, [], ◌∷◌, ◌++◌, map, Option, None, Some, is_some, refl, sym, ap, ◌∙◌, true≢false}
 use Rattle.std.specs.Option.{option_map}
 use Rattle.pe_arena.specs.declared.handle.Handle.{Handle}
 use Rattle.pe_arena.specs.Slots.{Slots, live}
@@ -12,13 +12,8 @@ use Rattle.pe_frames.specs.Kept.{kept, entries_in, IsForest}
 use Rattle.pe_frames.proofs.Nodes.{same_handle-Decides, found-live}
 use Rattle.pe_frames.proofs.Tree.{Each}
 use Rattle.pe_frames.proofs.Under.{tree-forest, frames-live}
-
-some_same : {A : Type 0} {a b : A} → Some a ≡ Some b → a ≡ b
-some_same e = cc
-
-or_true : (b : Bool) → (b || true) ≡ true
-or_true true = refl
-or_true false = refl
+use Rattle.std.proofs.Math.Bool.{or-true}
+use Rattle.pe_frames.proofs.Lemmas.{some_same}
 
 module _ {D : Type 0} where
   -- rows that stand as before show the documents that they showed
@@ -26,7 +21,7 @@ module _ {D : Type 0} where
   docs-same a b [] same = refl
   docs-same a b (k ∷ ks) same =
       ap (λ o. doc_before o (docs_at b ks)) (same k (ap (λ t. t || has_handle k ks) ((same_handle-Decides k k).1 refl)))
-      ∙ ap (doc_before (live a k)) (docs-same a b ks (λ j t. same j (ap (λ u. same_handle k j || u) t ∙ or_true (same_handle k j))))
+      ∙ ap (doc_before (live a k)) (docs-same a b ks (λ j t. same j (ap (λ u. same_handle k j || u) t ∙ or-true (same_handle k j))))
 
   doc-shown : (o : Option (Row D)) (x : Entry D) (xs : List D) → option_map (λ r. r.node) o ≡ Some (node_in x) → doc_before o xs ≡ x.doc ∷ xs
   doc-shown None x xs e = absurd (true≢false (sym (ap is_some e)))

@@ -3,26 +3,23 @@ use Rattle.std.proofs.Common.{◌≡◌, ◌≢◌, ℕ, ◌+◌, ◌≤◌, Boo
 use Rattle.std.specs.Prelude.{IfSome}
 use Rattle.std.specs.Option.{option_map}
 use Rattle.pe_arena.specs.declared.handle.Handle.{Handle}
-use Rattle.pe_arena.specs.Slots.{Slots, live, mark, holding, with_value, IsNext, Updates}
-use Rattle.pe_arena.proofs.Live.{unlive-next}
+use Rattle.pe_arena.specs.Slots.{Slots, live, mark, holding, with_value, IsGiven, Updates}
 use Rattle.pe_frames.specs.declared.row.Row.{Row}
 use Rattle.pe_frames.specs.declared.node.Node.{Node}
 use Rattle.pe_frames.specs.declared.node.Place.{Place}
 use Rattle.pe_frames.specs.Forest.{Gives, StayDead, same_handle, parent_of, top_of, entry_of, node_in, page_size, page_count}
 use Rattle.pe_frames.specs.Order.{head_of}
 use Rattle.pe_frames.specs.Links.{Rewrites, at, young, linked}
-use Rattle.pe_frames.specs.Kept.{kept, node_at, entry_in, entries_in, HasLinks, forest_in, IsForest}
+use Rattle.pe_frames.specs.Kept.{kept, node_at, entry_in, entries_in, HasLinks, forest_in, IsForest, IsSwept}
 use Rattle.pe_frames.proofs.Nodes.{same_handle-Decides, kept-live, found-live}
-use Rattle.pe_frames.proofs.Pages.{entry-absent, not_same}
+use Rattle.pe_frames.proofs.Pages.{entry-absent}
+use Rattle.std.proofs.lemmas.Bool.{false_from_ne_true}
 use Rattle.pe_frames.proofs.Writes.{Rewrites-one, Rewrites-then, still-live}
 use Rattle.pe_frames.proofs.Below.{IsBelow, IsCounted, IsCounted-below, room_is, node-below, top-entry, pages-below}
 use Rattle.pe_frames.proofs.Kin.{child-absent, childless}
 use Rattle.pe_frames.proofs.Linked.{linked-node, linked-size, grown, grown-node, grown-size, grown-links, links-new, links-old, last-is-child, last-kept}
-use Rattle.pe_frames.proofs.Opened.{Steps, Makes, Makes-steps, each-row, sized-below, IsForest-made, StayDead-made, new-made, Gives-made, entries-made}
-
-if_each : {A : Type 0} (P : A → Type 0) (o : Option A) → ((x : A) → o ≡ Some x → P x) → IfSome o P
-if_each P None f = tt
-if_each P (Some x) f = f x refl
+use Rattle.pe_frames.proofs.Opened.{Steps, Makes, Makes-steps, each-row, sized-below, IsForest-made, StayDead-made, new-made, Gives-made, entries-made, IsSwept-made}
+use Rattle.pe_frames.proofs.Lemmas.{if_each, some_same}
 
 module _ {D : Type 0} where
   -- a row was taken in for a frame below a live one
@@ -30,7 +27,8 @@ module _ {D : Type 0} where
     pub below : IsBelow (entries_in (kept s order [])) p place
     pub room : page_size (entries_in (kept s order [])) place.top ≢ 256
     pub deep : place.depth ≤ 64
-    pub next : IsNext s h.slot
+    pub new : live s h ≡ None
+    pub given : IsGiven s mid h
     pub fresh : h.generation ≡ mark s h.slot
     pub slots : mid ≡ holding s h.slot row
     pub taken : Updates s mid h (Some row)
@@ -43,7 +41,7 @@ module _ {D : Type 0} where
 
   module _ (s mid : Slots (Row D)) (order : List Handle) (pages : ℕ) (is : IsForest s order pages) (p : Handle) (place : Place) (h : Handle) (frame : ℕ) (doc : D) (row : Row D) (embeds : Embeds s mid order p place h frame doc row) where
     counted : IsCounted s mid (entries_in (kept s order [])) h place.top
-    counted = IsCounted-below s mid order pages is p place embeds.below embeds.room h row embeds.fresh embeds.taken
+    counted = IsCounted-below s mid order pages is p place embeds.below embeds.room h row embeds.new embeds.taken
 
     pub top-live : IsSome (live mid place.top)
     top-live = ap is_some counted.found
@@ -52,20 +50,20 @@ module _ {D : Type 0} where
     top-room = room_is (live mid place.top) counted.row counted.found counted.room
 
     unseen : node_at (kept s order []) h ≡ None
-    unseen = kept-live s h order (is.listed h) ∙ ap (option_map (λ r. r.node)) (unlive-next s h embeds.fresh)
+    unseen = kept-live s h order (is.listed h) ∙ ap (option_map (λ r. r.node)) embeds.new
 
     last-is : place.last ≡ head_of (young (entries_in (kept s order [])) p)
     last-is = ap (λ x. x.last) embeds.below.is
 
-    module _ (large : Slots (Row D)) (written : IfSome (live mid place.top) (λ r. large ≡ with_value mid place.top.slot (record r { size = r.size + 1 }))) where
+    module _ (large : Slots (Row D)) (alone : (r : Row D) → Updates mid (with_value mid place.top.slot r) place.top (Some r)) (written : IfSome (live mid place.top) (λ r. large ≡ with_value mid place.top.slot (record r { size = r.size + 1 }))) where
       growing : Rewrites mid large (at (Some place.top) grown)
-      growing = Rewrites-one mid large place.top grown top-live written
+      growing = Rewrites-one mid large place.top grown top-live alone written
 
       live-still : (k : Handle) → IsSome (live s k) → IsSome (live large k)
       live-still k l = still-live mid large (at (Some place.top) grown) growing k (subst IsSome (sym (embeds.taken.others k other)) l)
         where
           other : k ≡ h → ⊥
-          other e = true≢false (sym l ∙ ap is_some (ap (live s) e ∙ unlive-next s h embeds.fresh))
+          other e = true≢false (sym l ∙ ap is_some (ap (live s) e ∙ embeds.new))
 
       pub parent-live : IsSome (live large p)
       parent-live = live-still p (some_row (live s p) (subst IsSome (sym (found-live s order p is.listed is.nodes ∙ ap (option_map node_in) embeds.below.found)) refl))
@@ -77,7 +75,8 @@ module _ {D : Type 0} where
       module _ (t : Slots (Row D)) (link : Rewrites large t (linked p place.last h)) where
         steps : Steps s mid t h row (λ k r. linked p place.last h k (at (Some place.top) grown k r))
         steps = record {
-          next = embeds.next;
+          new = embeds.new;
+          given = embeds.given;
           fresh = embeds.fresh;
           slots = embeds.slots;
           taken = embeds.taken;
@@ -103,14 +102,11 @@ module _ {D : Type 0} where
         pages-say : page_count (entry_in (entries_in (kept s order [])) (record { handle = h; node = row.node }) ∷ entries_in (kept s order [])) ≡ page_count (entries_in (kept s order []))
         pages-say = subst (λ (n : Node D). page_count (entry_in (entries_in (kept s order [])) (record { handle = h; node = n }) ∷ entries_in (kept s order [])) ≡ page_count (entries_in (kept s order []))) (sym embeds.node) (pages-below (entries_in (kept s order [])) p place embeds.below h frame doc)
 
-        some_same : {A : Type 0} {a b : A} → Some a ≡ Some b → a ≡ b
-        some_same q = cc
-
         small : (r : Row D) → live s place.top ≡ Some r → r.size ≤ 255
         small r e = subst (λ (x : Row D). x.size ≤ 255) (some_same (sym counted.before ∙ e)) counted.room
 
         parent-other : same_handle p h ≡ false
-        parent-other = not_same (same_handle p h) (λ e.
+        parent-other = false_from_ne_true (same_handle p h) (λ e.
             let found = ap is_some embeds.below.found in
             let none = entry-absent (kept s order []) h is.nodes unseen in
             true≢false (sym found ∙ ap is_some (ap (entry_of (entries_in (kept s order []))) ((same_handle-Decides p h).0 e) ∙ none)))
@@ -131,7 +127,7 @@ module _ {D : Type 0} where
         links-there j r ne found =
             subst (λ o. HasLinks (entry_in (entries_in (kept s order [])) (record { handle = h; node = row.node }) ∷ entries_in (kept s order [])) j (linked p o h j (at (Some place.top) grown j r))) (sym last-is)
             (links-old (entry_in (entries_in (kept s order [])) (record { handle = h; node = row.node })) (entries_in (kept s order [])) p parent-says j
-            (not_same (same_handle h j) (λ e. ne (sym ((same_handle-Decides h j).0 e)))) (at (Some place.top) grown j r)
+            (false_from_ne_true (same_handle h j) (λ e. ne (sym ((same_handle-Decides h j).0 e)))) (at (Some place.top) grown j r)
             (grown-links (entries_in (kept s order [])) place.top j r (is.linked j r found))
             (λ f. last-is-child (kept s order []) is.nodes is.apart p j r.node (kept-live s j order (is.listed j) ∙ ap (option_map (λ x. x.node)) found)
             (λ q. f (ap (λ (n : Node D). n.parent) (grown-node place.top j r) ∙ q))))
@@ -158,3 +154,6 @@ module _ {D : Type 0} where
 
         pub Gives-below : Gives (forest_in s order) (forest_in t (order ++ h ∷ [])) h
         Gives-below = Gives-made s t h row.node makes-below order pages is
+
+        pub IsSwept-below : (dead : ℕ) → IsSwept s order dead → IsSwept t (order ++ h ∷ []) dead
+        IsSwept-below = IsSwept-made s t h row.node makes-below order pages is

@@ -8,9 +8,11 @@ use Rattle.pe_frames.specs.Order.{is_named, head_of, after, is_child, child_hand
 use Rattle.pe_frames.specs.Links.{before, young, siblings}
 use Rattle.pe_frames.specs.Kept.{Kept, node_at, above_in, entry_in, entries_in, AreNodes, AreApart, AreOnce, standing_in}
 use Rattle.pe_frames.proofs.Nodes.{same_handle-Decides, entries-nodes}
-use Rattle.pe_frames.proofs.Pages.{Above, above-of, nothing, below, entry-absent, not_same}
+use Rattle.pe_frames.proofs.Pages.{Above, above-of, nothing, below, entry-absent}
+use Rattle.std.proofs.lemmas.Bool.{false_from_ne_true}
 use Rattle.pe_frames.proofs.Below.{last-push, entry-handle}
 use Rattle.pe_frames.proofs.Children.{born, first-child, later-child, later-none}
+use Rattle.pe_frames.proofs.Lemmas.{some_same}
 
 module _ {D : Type 0} where
   absent_node : (o : Option (Entry D)) → o ≡ None → option_map node_in o ≡ None
@@ -23,7 +25,7 @@ module _ {D : Type 0} where
 
   -- a handle that is not kept is no child
   pub child-absent : (xs : List (Kept D)) → AreNodes xs → AreApart xs → (p k : Handle) → node_at xs k ≡ None → has_handle k (young (entries_in xs) p) ≡ false
-  child-absent xs are apart p k e = not_same (has_handle k (young (entries_in xs) p)) (λ t.
+  child-absent xs are apart p k e = false_from_ne_true (has_handle k (young (entries_in xs) p)) (λ t.
       let b = born xs p k are apart t in
       true≢false (sym (ap is_some b.found) ∙ ap is_some e))
 
@@ -56,7 +58,7 @@ module _ {D : Type 0} where
       other none (below j a f q) =
           ap (λ ks. is_named (last_of ks) p) q
           ∙ ap (λ o. is_named o p) (last-push a.above a.handle)
-          ∙ not_same (same_handle a.handle p) (λ t.
+          ∙ false_from_ne_true (same_handle a.handle p) (λ t.
           found_or_not (entry_of (entries_in xs) j) a f
           (ap (entry_of (entries_in xs)) (sym (entry-handle (entries_in xs) j a f) ∙ (same_handle-Decides a.handle p).0 t) ∙ entry-absent xs p are.1 none))
 
@@ -76,13 +78,10 @@ module _ {D : Type 0} where
 
     -- nor behind the child of another
     pub child-other : (k : Handle) (e : Entry D) → entry_of (entries_in xs) k ≡ Some e → parent_of e ≢ Some p → after k (child_handles (entries_in xs) p) ≡ None
-    child-other k e f ne = later-none (entries_in xs) p k (not_same (has_handle k (young (entries_in xs) p)) (λ t.
+    child-other k e f ne = later-none (entries_in xs) p k (false_from_ne_true (has_handle k (young (entries_in xs) p)) (λ t.
         let b = born xs p k are apart t in
         let same : node_in e ≡ b.node = some_same (sym (ap (option_map node_in) f) ∙ entries-nodes xs k are ∙ b.found) in
         ne (ap (λ n. n.parent) same ∙ b.parent)))
-      where
-        some_same : {A : Type 0} {x y : A} → Some x ≡ Some y → x ≡ y
-        some_same q = cc
 
     -- the later sibling stands in the links of the child
     pub child-later : (k : Handle) (e : Entry D) → parent_of e ≡ Some p → (standing_in (entries_in xs) k e).links.later ≡ after k (child_handles (entries_in xs) p)

@@ -15,9 +15,7 @@ use Rattle.pe_frames.proofs.Opened.{mark-seen}
 use Rattle.pe_frames.proofs.Tree.{Each, IsTree, stays, newest}
 use Rattle.pe_frames.proofs.Subtrees.{under-other}
 use Rattle.pe_frames.proofs.Under.{tree-forest, handles-live, handles-all, handles-once, frames-live}
-
-some_same : {A : Type 0} {a b : A} → Some a ≡ Some b → a ≡ b
-some_same q = cc
+use Rattle.pe_frames.proofs.Lemmas.{some_same}
 
 module _ {D : Type 0} where
   -- each kept frame was new before those behind it

@@ -11,10 +11,8 @@ use Rattle.pe_frames.specs.Order.{is_named}
 use Rattle.pe_frames.specs.Links.{SameMarks}
 use Rattle.pe_frames.specs.Kept.{kept, shown, entries_in, AreOnce, IsSized, IsForest}
 use Rattle.pe_frames.proofs.Nodes.{same_handle-Decides}
-use Rattle.pe_frames.proofs.Cuts.{IsCut, count-less}
-
-some_same : {A : Type 0} {a b : A} → Some a ≡ Some b → a ≡ b
-some_same e = cc
+use Rattle.pe_frames.proofs.Cuts.{IsCut, count-less, length-entries, length-cut, Sweeps-none}
+use Rattle.pe_frames.proofs.Lemmas.{not_not, some_same}
 
 module _ {D : Type 0} where
   -- the rows of some handles are gone, and each other row was changed, but for its node
@@ -83,6 +81,18 @@ module _ {D : Type 0} where
         by_test x true q = ap (λ c. c && true) (ap (λ j. same_handle j k) (q refl) ∙ other)
         by_test x false q = none (same_handle (top_of x) k)
 
+    -- the frames are so many fewer
+    all-less : length (entries_in (kept s order [])) ≡ length (filter stays (entries_in (kept s order []))) + length ks
+    all-less =
+        let less = count-less (kept s order []) is.nodes is.apart (λ x. true) stays ks leaves.once leaves.alive (λ x f. ap not (leaves.agree x f) ∙ not_not (has_handle x.handle ks)) in
+        let old = all-pass (entries_in (kept s order [])) in
+        let new = all-pass (filter stays (entries_in (kept s order []))) in
+        omega (arith, less, old, new)
+      where
+        all-pass : (xs : List (Entry D)) → length (filter (λ x. true) xs) ≡ length xs
+        all-pass [] = refl
+        all-pass (x ∷ xs) = let rest = all-pass xs in omega (arith, rest)
+
     -- where no top frame leaves, the pages are as many as before
     pub pages-same : ((x : Entry D) → entry_of (entries_in (kept s order [])) x.handle ≡ Some x → has_handle x.handle ks ≡ true → is_top x ≡ false) → page_count (entries_in (kept s order [])) ≡ page_count (filter stays (entries_in (kept s order [])))
     pages-same low =
@@ -102,7 +112,7 @@ module _ {D : Type 0} where
     pub pages-one : (h : Handle) → IsSome (entry_of (entries_in (kept s order [])) h) → ((x : Entry D) → entry_of (entries_in (kept s order [])) x.handle ≡ Some x → (is_top x && has_handle x.handle ks) ≡ same_handle h x.handle) → page_count (entries_in (kept s order [])) ≡ page_count (filter stays (entries_in (kept s order []))) + 1
     pages-one h some low = count-less (kept s order []) is.nodes is.apart is_top stays (h ∷ []) (refl, tt)
         (λ j t. subst (λ k. IsSome (entry_of (entries_in (kept s order [])) k)) ((same_handle-Decides h j).0 (or_none (same_handle h j) t)) some)
-        (λ x f. ap (λ b. is_top x && not b) (leaves.agree x f) ∙ ap (λ b. is_top x && b) (twice (has_handle x.handle ks)) ∙ low x f ∙ none_or (same_handle h x.handle))
+        (λ x f. ap (λ b. is_top x && not b) (leaves.agree x f) ∙ ap (λ b. is_top x && b) (not_not (has_handle x.handle ks)) ∙ low x f ∙ none_or (same_handle h x.handle))
       where
         or_none : (b : Bool) → (b || false) ≡ true → b ≡ true
         or_none true t = t
@@ -112,10 +122,6 @@ module _ {D : Type 0} where
         none_or true = refl
         none_or false = refl
 
-        twice : (b : Bool) → not (not b) ≡ b
-        twice true = refl
-        twice false = refl
-
     module _ (t : Slots (Row D)) (change : Handle → Row D → Row D) (changes : Changes s t (λ k. has_handle k ks) change) where
       pub IsCut-left : IsCut s t order (λ k. has_handle k ks) stays
       IsCut-left = record {
@@ -124,6 +130,13 @@ module _ {D : Type 0} where
         rooted = leaves.rooted;
         same = changes.same;
       }
+
+      -- the rows that are kept are so many fewer
+      pub length-left : length (kept s order []) ≡ length (kept t order []) + length ks
+      length-left =
+          let old = length-entries (kept s order []) in
+          let new = length-cut s t order pages is (λ k. has_handle k ks) stays IsCut-left order (Sweeps-none t order) in
+          omega (arith, old, new, all-less)
 
       -- the sizes of pages
       pub sized-left : (page : Option Handle) → ((k : Handle) (r : Row D) → (change k r).size ≡ cond (is_named page k) (r.size - length ks) r.size) → ((k : Handle) → has_handle k ks ≡ false → is_named page k ≡ same_handle top k)

@@ -1,14 +1,19 @@
 pub mod Below
+pub mod Bounds
+pub mod Changed
 pub mod Children
+pub mod Climbed
 pub mod Climbing
 pub mod Closed
 pub mod Closing
+pub mod Counted
 pub mod Cuts
 pub mod Documents
 pub mod Embedded
 pub mod Kin
 pub mod Laws
 pub mod Leaving
+pub mod Lemmas
 pub mod Linked
 pub mod Navigated
 pub mod Nodes
@@ -24,6 +29,7 @@ pub mod TreeOrder
 pub mod Under
 pub mod Unlinked
 pub mod Upward
+pub mod Visited
 pub mod Walking
 pub mod Within
 pub mod Without

@@ -9,8 +9,9 @@ use Rattle.pe_frames.specs.Order.{is_named, head_of, after}
 use Rattle.pe_frames.specs.Links.{before, links_by, young, siblings, links_in, at, with_first, with_last, with_later, linked}
 use Rattle.pe_frames.specs.Kept.{Kept, node_at, entries_in, AreNodes, AreApart, HasLinks}
 use Rattle.pe_frames.proofs.Nodes.{same_handle-Decides, same_or_other}
-use Rattle.pe_frames.proofs.Pages.{not_same}
+use Rattle.std.proofs.lemmas.Bool.{false_from_ne_true}
 use Rattle.pe_frames.proofs.Children.{born, head-absent, before-absent, is_named-of}
+use Rattle.pe_frames.proofs.Lemmas.{some_same}
 
 head-has : (j : Handle) (ks : List Handle) → is_named (head_of ks) j ≡ true → has_handle j ks ≡ true
 head-has j [] e = absurd (true≢false (sym e))
@@ -199,13 +200,10 @@ module _ {D : Type 0} where
 
   -- the last child of a frame is no frame of another parent
   pub last-is-child : (xs : List (Kept D)) → AreNodes xs → AreApart xs → (p j : Handle) (n : Node D) → node_at xs j ≡ Some n → n.parent ≢ Some p → is_named (head_of (young (entries_in xs) p)) j ≡ false
-  last-is-child xs are apart p j n found ne = not_same (is_named (head_of (young (entries_in xs) p)) j) (λ t.
+  last-is-child xs are apart p j n found ne = false_from_ne_true (is_named (head_of (young (entries_in xs) p)) j) (λ t.
       let b = born xs p j are apart (head-has j (young (entries_in xs) p) t) in
       let same : b.node ≡ n = some_same (sym b.found ∙ found) in
       ne (ap (λ (x : Node D). x.parent) (sym same) ∙ b.parent))
-    where
-      some_same : {A : Type 0} {a b : A} → Some a ≡ Some b → a ≡ b
-      some_same q = cc
 
   -- and is kept
   pub last-kept : (xs : List (Kept D)) → AreNodes xs → AreApart xs → (p k : Handle) → head_of (young (entries_in xs) p) ≡ Some k → IsSome (node_at xs k)

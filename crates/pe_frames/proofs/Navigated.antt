@@ -1,10 +1,10 @@
 -- A frame that is navigated: it shows another document, and those below it go.
-use Rattle.std.proofs.Common.{◌≡◌, inl, inr, ℕ, ◌-◌, ◌≤◌, Bool, true, false, cond, ◌||◌, List, [], ◌∷◌, map, length, Option, None, Some, IsSome, is_some, refl, sym, ap, subst, ◌∙◌, arith, true≢false}
+use Rattle.std.proofs.Common.{◌≡◌, inl, inr, ℕ, ◌+◌, ◌-◌, ◌≤◌, Bool, true, false, cond, ◌||◌, List, [], ◌∷◌, map, length, Option, None, Some, IsSome, is_some, refl, sym, ap, subst, ◌∙◌, arith, true≢false}
 use Rattle.std.specs.Prelude.{◌==◌, filter, not, IfSome}
 use Rattle.std.specs.Option.{option_map}
 use Rattle.std.proofs.lemmas.Bool.Decides.{Decides-eqb}
 use Rattle.pe_arena.specs.declared.handle.Handle.{Handle}
-use Rattle.pe_arena.specs.Slots.{Slots, live, with_value}
+use Rattle.pe_arena.specs.Slots.{Slots, live, with_value, Updates}
 use Rattle.pe_frames.specs.declared.row.Row.{Row}
 use Rattle.pe_frames.specs.declared.row.Links.{Links}
 use Rattle.pe_frames.specs.declared.row.Standing.{Standing}
@@ -12,32 +12,24 @@ use Rattle.pe_frames.specs.declared.node.Node.{Node}
 use Rattle.pe_frames.specs.Forest.{Forest, Entry, last_of, same_handle, has_handle, entry_of, parent_of, top_of, is_top, is_under, redone, IsDead, StayDead}
 use Rattle.pe_frames.specs.Order.{is_named, handles_under, docs_under, navigated}
 use Rattle.pe_frames.specs.Links.{links_by, young, siblings, at, smaller, renewed, doc_before, docs_at, SameMarks, Rewrites, Removes}
-use Rattle.pe_frames.specs.Kept.{kept, entries_in, standing_in, HasLinks, Sweeps, forest_in, IsForest}
-use Rattle.pe_frames.proofs.Nodes.{same_handle-Decides, same_or_other, found-live}
-use Rattle.pe_frames.proofs.Pages.{not_same, top-found}
+use Rattle.pe_frames.specs.Kept.{kept, entries_in, standing_in, HasLinks, Sweeps, IsSwept, forest_in, IsForest}
+use Rattle.pe_frames.proofs.Nodes.{same_handle-Decides, same_or_other, found-live, other-turned}
+use Rattle.pe_frames.proofs.Pages.{top-found}
+use Rattle.std.proofs.lemmas.Bool.{false_from_ne_true, or_parts}
 use Rattle.pe_frames.proofs.Sizes.{TopRow-live}
 use Rattle.pe_frames.proofs.Writes.{Rewrites-one, SameMarks-then}
-use Rattle.pe_frames.proofs.Written.{entry_of-redone, young-redone, IsForest-written, forest-written}
+use Rattle.pe_frames.proofs.Written.{entry_of-redone, young-redone, IsForest-written, forest-written, length-written}
 use Rattle.pe_frames.proofs.Tree.{Each}
 use Rattle.pe_frames.proofs.Under.{tree-forest, handles-live}
 use Rattle.pe_frames.proofs.Cuts.{each-live, frame-of, IsForest-cut, entries-cut, StayDead-cut, IsDead-cut}
 use Rattle.pe_frames.proofs.Within.{goes-under, parent-stays, child-goes, top-goes, page-goes, young-stays, children-same, children-none}
 use Rattle.pe_frames.proofs.Unlinked.{at-keeps}
-use Rattle.pe_frames.proofs.Leaving.{Changes, stayed, Leaves, page-less, pages-same, IsCut-left, sized-left}
+use Rattle.pe_frames.proofs.Leaving.{Changes, stayed, Leaves, page-less, pages-same, IsCut-left, sized-left, length-left}
 use Rattle.pe_frames.proofs.Standings.{stands-at}
 use Rattle.pe_frames.proofs.Closed.{row-lives}
 use Rattle.pe_frames.proofs.Documents.{docs-same, docs-below}
 use Rattle.pe_frames.proofs.Closing.{LeavesAt, root-once, once-left}
-
-some_same : {A : Type 0} {a b : A} → Some a ≡ Some b → a ≡ b
-some_same e = cc
-
-neither : (a b : Bool) → (a || b) ≡ false → (a ≡ false) × (b ≡ false)
-neither true b e = absurd (true≢false e)
-neither false b e = (refl, e)
-
-turned : (a b : Handle) → same_handle a b ≡ false → same_handle b a ≡ false
-turned a b e = not_same (same_handle b a) (λ t. true≢false (sym ((same_handle-Decides a b).1 (sym ((same_handle-Decides b a).0 t))) ∙ e))
+use Rattle.pe_frames.proofs.Lemmas.{some_same}
 
 top-none : (ks : List Handle) → (length ks == 0) ≡ true → last_of ks ≡ None
 top-none [] t = refl
@@ -103,7 +95,7 @@ module _ {D : Type 0} where
       let at = stands-at (entries_in (kept s order [])) h o here some (subst (λ (g : Forest D). o ≡ option_map (standing_in g.entries h) (entry_of g.entries h)) (sym view) value) in
       row-lives s order pages is h (ap is_some at.found)
 
-  module _ (s : Slots (Row D)) (order : List Handle) (pages : ℕ) (is : IsForest s order pages) (h : Handle) (here : Standing) (below : List Handle) (leaves : LeavesAt s order h here below) (w : D) (r : Row D) (found : live s h ≡ Some r) where
+  module _ (s : Slots (Row D)) (order : List Handle) (pages : ℕ) (is : IsForest s order pages) (h : Handle) (here : Standing) (below : List Handle) (leaves : LeavesAt s order h here below) (w : D) (r : Row D) (found : live s h ≡ Some r) (alone : (x : Row D) → Updates s (with_value s h.slot x) h (Some x)) where
     -- the frames that were, and those with the document
     abbrev olds : List (Entry D)
     olds = entries_in (kept s order [])
@@ -112,7 +104,7 @@ module _ {D : Type 0} where
     news = entries_in (kept (with_value s h.slot (redoc w r)) order [])
 
     redone-news : news ≡ map (redone h w) olds
-    redone-news = ap (λ (f : Forest D). f.entries) (forest-written h w s r found order pages is)
+    redone-news = ap (λ (f : Forest D). f.entries) (forest-written h w s r found alone order pages is)
 
     was : (k : Handle) (y : Entry D) → entry_of news k ≡ Some y → WasFrame olds h w k y
     was k y f = was-frame olds h w k y (sym (ap (λ es. entry_of es k) redone-news) ∙ f)
@@ -121,11 +113,11 @@ module _ {D : Type 0} where
     goes k u = ap (λ b. b || has_handle k below) (sym u) ∙ ap (has_handle k) leaves.all
 
     stays-both : (k : Handle) → has_handle k (handles_under olds h) ≡ false → (same_handle h k ≡ false) × (has_handle k below ≡ false)
-    stays-both k g = neither (same_handle h k) (has_handle k below) (ap (has_handle k) leaves.all ∙ g)
+    stays-both k g = or_parts (same_handle h k) (has_handle k below) (ap (has_handle k) leaves.all ∙ g)
 
     below-goes : (k : Handle) → has_handle k below ≡ true → (same_handle h k ≡ false) × (has_handle k (handles_under olds h) ≡ true)
     below-goes k t =
-        let u = not_same (same_handle h k) (λ q. true≢false (sym t ∙ ap (λ j. has_handle j below) (sym ((same_handle-Decides h k).0 q)) ∙ root-once s order pages is h here below leaves)) in
+        let u = false_from_ne_true (same_handle h k) (λ q. true≢false (sym t ∙ ap (λ j. has_handle j below) (sym ((same_handle-Decides h k).0 q)) ∙ root-once s order pages is h here below leaves)) in
         (u, sym (goes k u) ∙ t)
 
     itself : (k : Handle) → same_handle h k ≡ true → has_handle k below ≡ false
@@ -134,7 +126,7 @@ module _ {D : Type 0} where
     spares-agree : (k : Handle) (x : Entry D) → entry_of olds k ≡ Some x → (same_handle k h || not (is_under h x)) ≡ not (has_handle k below)
     spares-agree k x f = elim (same_or_other h k) as (λ _. (same_handle k h || not (is_under h x)) ≡ not (has_handle k below)) [
       | inl t ↦ ap (λ b. b || not (is_under h x)) ((same_handle-Decides k h).1 (sym ((same_handle-Decides h k).0 t))) ∙ ap not (sym (itself k t))
-      | inr u ↦ ap (λ b. b || not (is_under h x)) (turned h k u) ∙ ap not (sym (goes k u ∙ goes-under olds (tree-forest s order pages is) h leaves.entry leaves.found k x f))
+      | inr u ↦ ap (λ b. b || not (is_under h x)) (other-turned h k u) ∙ ap not (sym (goes k u ∙ goes-under olds (tree-forest s order pages is) h leaves.entry leaves.found k x f))
     ]
 
     -- the parent of what stays is the root, or stays too
@@ -144,7 +136,7 @@ module _ {D : Type 0} where
           let hk = (same_handle-Decides h k).0 t in
           let same : leaves.entry ≡ x = some_same (sym leaves.found ∙ ap (entry_of olds) hk ∙ f) in
           parent-stays olds (tree-forest s order pages is) h leaves.entry leaves.found p (ap (λ (y : Entry D). parent_of y) same ∙ q)
-      | inr u ↦ sym (child-goes olds (tree-forest s order pages is) h leaves.entry leaves.found k x p f q (turned h k u)) ∙ sym (goes k u) ∙ g
+      | inr u ↦ sym (child-goes olds (tree-forest s order pages is) h leaves.entry leaves.found k x p f q (other-turned h k u)) ∙ sym (goes k u) ∙ g
     ]
 
     leaves-below : Leaves (with_value s h.slot (redoc w r)) order below (spares h) (top_of leaves.entry)
@@ -165,7 +157,7 @@ module _ {D : Type 0} where
     }
 
     is-written : IsForest (with_value s h.slot (redoc w r)) order pages
-    is-written = IsForest-written h w s r found order pages is
+    is-written = IsForest-written h w s r found alone order pages is
 
     each-spared : Each (λ x. spares h x ≡ not (has_handle x.handle below)) news
     each-spared = each-live (λ x. spares h x ≡ not (has_handle x.handle below)) (kept (with_value s h.slot (redoc w r)) order []) is-written.nodes is-written.apart leaves-below.agree
@@ -215,11 +207,11 @@ module _ {D : Type 0} where
 
     -- no top frame goes
     low-goes : (y : Entry D) → entry_of news y.handle ≡ Some y → has_handle y.handle below ≡ true → is_top y ≡ false
-    low-goes y f t = not_same (is_top y) (λ top.
+    low-goes y f t = false_from_ne_true (is_top y) (λ top.
         let b = was y.handle y f in
         let both = below-goes y.handle t in
         let g = top-goes olds (tree-forest s order pages is) h leaves.entry leaves.found y.handle b.entry b.found (top-none b.entry.above (ap (λ (x : Entry D). is_top x) b.is ∙ top)) in
-        true≢false (sym (sym g ∙ both.1) ∙ turned h y.handle both.0))
+        true≢false (sym (sym g ∙ both.1) ∙ other-turned h y.handle both.0))
 
     root-written : (e : Entry D) → entry_of olds h ≡ Some e → entry_of news h ≡ Some (redone h w e)
     root-written e f = ap (λ es. entry_of es h) redone-news ∙ entry_of-redone h w olds h ∙ ap (option_map (redone h w)) f
@@ -228,17 +220,17 @@ module _ {D : Type 0} where
     top-spared =
         let has = top-found (kept s order []) is.nodes is.apart h leaves.entry leaves.found in
         let g = top-goes olds (tree-forest s order pages is) h leaves.entry leaves.found (top_of leaves.entry) has.top has.found (ap last_of has.bare) in
-        not_same (has_handle (top_of leaves.entry) below) (λ t.
+        false_from_ne_true (has_handle (top_of leaves.entry) below) (λ t.
         let both = below-goes (top_of leaves.entry) t in
-        true≢false (sym (sym g ∙ both.1) ∙ turned h (top_of leaves.entry) both.0))
+        true≢false (sym (sym g ∙ both.1) ∙ other-turned h (top_of leaves.entry) both.0))
 
     -- the steps of the code
     module _ (one two : Slots (Row D)) (renew : IfSome (live s h) (λ x. one ≡ with_value s h.slot (renewed w x))) (emptied : Removes one two below) where
       writes : Rewrites s (with_value s h.slot (redoc w r)) (at (Some h) (redoc w))
-      writes = Rewrites-one s (with_value s h.slot (redoc w r)) h (redoc w) (ap is_some found) (subst (λ o. IfSome o (λ x. with_value s h.slot (redoc w r) ≡ with_value s h.slot (redoc w x))) (sym found) refl)
+      writes = Rewrites-one s (with_value s h.slot (redoc w r)) h (redoc w) (ap is_some found) alone (subst (λ o. IfSome o (λ x. with_value s h.slot (redoc w r) ≡ with_value s h.slot (redoc w x))) (sym found) refl)
 
       renews : Rewrites s one (at (Some h) (renewed w))
-      renews = Rewrites-one s one h (renewed w) (ap is_some found) renew
+      renews = Rewrites-one s one h (renewed w) (ap is_some found) alone renew
 
       clears : Rewrites (with_value s h.slot (redoc w r)) one (at (Some h) childless)
       clears = record {
@@ -339,6 +331,14 @@ module _ {D : Type 0} where
             shrunk-links true y has = has
             shrunk-links false y has = has
 
+        -- the dead handles, before the list is swept
+        pub dead-navigated : (dead : ℕ) → IsSwept s order dead → length order ≡ length (kept t order []) + (dead + n)
+        dead-navigated dead was =
+            let counted = was.counted in
+            let same = length-written h w s r found alone order pages is in
+            let fewer = length-left (with_value s h.slot (redoc w r)) order pages is-written below (spares h) (top_of leaves.entry) leaves-below t (λ k x. at (Some (top_of leaves.entry)) (smaller (length below)) k (at (Some h) childless k x)) changes in
+            omega (arith, counted, same, fewer, many)
+
         pub IsForest-navigated : IsForest t swept pages
         IsForest-navigated =
             IsForest-cut (with_value s h.slot (redoc w r)) t order pages is-written (λ k. has_handle k below) (spares h)
@@ -368,7 +368,7 @@ module _ {D : Type 0} where
             StayDead-cut (with_value s h.slot (redoc w r)) t order pages is-written (λ j. has_handle j below) (spares h)
             (IsCut-left (with_value s h.slot (redoc w r)) order pages is-written below (spares h) (top_of leaves.entry) leaves-below t (λ j x. at (Some (top_of leaves.entry)) (smaller (length below)) j (at (Some h) childless j x)) changes)
             swept sweeps k
-            (subst (λ (f : Forest D). IsDead f k) (sym (forest-written h w s r found order pages is))
+            (subst (λ (f : Forest D). IsDead f k) (sym (forest-written h w s r found alone order pages is))
             (record { given = dead.given; gone = entry_of-redone h w olds k ∙ ap (option_map (redone h w)) dead.gone }))
 
         pub IsDead-navigated : (k : Handle) → IsSome (entry_of (forest_in s order).entries k) → entry_of (forest_in t swept).entries k ≡ None → IsDead (forest_in t swept) k

@@ -1,37 +1,20 @@
 -- The list of frames, through the making of a frame.
-use Rattle.std.proofs.Common.{◌≡◌, ◌≢◌, ◌⊎◌, inl, inr, ℕ, ◌+◌, ◌<◌, ◌≤◌, Bool, true, false, cond, ◌||◌, List, [], ◌∷◌, ◌++◌, map, length, get_or, Option, None, Some, IsSome, is_some, refl, sym, ap, subst, ◌∙◌, arith, true≢false}
+use Rattle.std.proofs.Common.{◌≡◌, ◌≢◌, inl, inr, ℕ, ◌+◌, ◌<◌, ◌≤◌, true, false, cond, ◌||◌, List, [], ◌∷◌, ◌++◌, map, length, length-append, get_or, Option, None, Some, IsSome, is_some, refl, sym, ap, subst, ◌∙◌, arith, true≢false}
 use Rattle.std.proofs.Math.ListN.{get_or-map}
 use Rattle.pe_arena.specs.declared.handle.Handle.{Handle}
-use Rattle.pe_arena.specs.Slots.{Slot, Slots, live, mark, holding, IsNext, Updates}
-use Rattle.pe_arena.proofs.Live.{unlive-next, mark-holding, mark-other-holding, mark-le-holding, length-holding}
+use Rattle.pe_arena.specs.Slots.{Slot, Slots, live, mark, holding, IsGiven, Updates}
 use Rattle.std.specs.Option.{option_map}
 use Rattle.pe_frames.specs.declared.row.Row.{Row}
 use Rattle.pe_frames.specs.declared.node.Node.{Node}
 use Rattle.pe_frames.specs.Forest.{Entry, top_of, same_handle, has_handle, entry_of, node_in, mark_of, page_count, Gives, StayDead}
-use Rattle.pe_frames.specs.Kept.{Kept, joined, kept, entry_in, entries_in, shown, node_at, AreNodes, AreApart, IsSized, HasLinks, forest_in, IsForest}
+use Rattle.pe_frames.specs.Kept.{Kept, joined, kept, entry_in, entries_in, shown, node_at, AreNodes, AreApart, IsSized, HasLinks, forest_in, IsForest, IsSwept}
 use Rattle.pe_frames.specs.Links.{Rewrites}
 use Rattle.pe_frames.proofs.Writes.{different, mark-kept, slots-kept}
 use Rattle.pe_frames.proofs.Pages.{entry-absent, page-empty, page-more, page-same}
 use Rattle.pe_frames.proofs.Nodes.{has-push, kept-live, same_handle-Decides, same_or_other}
-
-either : (a b : Bool) → (a || b) ≡ true → (a ≡ true) ⊎ (b ≡ true)
-either true b e = inl refl
-either false b e = inr e
-
-or_right : (a : Bool) → (a || true) ≡ true
-or_right true = refl
-or_right false = refl
-
-neither : (a b : Bool) → (a || b) ≡ false → (a ≡ false) × (b ≡ false)
-neither true b e = absurd (true≢false e)
-neither false b e = (refl, e)
-
-false_if : (b : Bool) → (b ≡ true → ⊥) → b ≡ false
-false_if true f = absurd (f refl)
-false_if false f = refl
-
-some_same : {A : Type 0} {a b : A} → Some a ≡ Some b → a ≡ b
-some_same e = cc
+use Rattle.std.proofs.lemmas.Bool.{false_from_ne_true, or_cases, or_parts}
+use Rattle.std.proofs.Math.Bool.{or-true}
+use Rattle.pe_frames.proofs.Lemmas.{some_same}
 
 module _ {D : Type 0} where
   -- handles that name what they did keep what they kept
@@ -39,7 +22,7 @@ module _ {D : Type 0} where
   unfolding kept
   kept-same s t h same [] xs e = refl
   kept-same s t h same (k ∷ hs) xs e =
-      let parts = neither (same_handle k h) (has_handle h hs) e in
+      let parts = or_parts (same_handle k h) (has_handle h hs) e in
       ap (λ o. kept t hs (joined k o xs)) (same k (different k h parts.0)) ∙ kept-same s t h same hs (joined k (shown s k) xs) parts.1
 
   -- the handle that is listed last stands first
@@ -70,7 +53,7 @@ module _ {D : Type 0} where
 
   module _ (s t : Slots (Row D)) (h : Handle) (m : Node D) (makes : Makes s t h m) (order : List Handle) (pages : ℕ) (is : IsForest s order pages) where
     unlisted : has_handle h order ≡ false
-    unlisted = false_if (has_handle h order) (λ e. let lt = is.given h e in let g = makes.fresh in absurd (omega arith))
+    unlisted = false_from_ne_true (has_handle h order) (λ e. let lt = is.given h e in let g = makes.fresh in absurd (omega arith))
 
     -- the kept frames, the new one the first
     kept-made : kept t (order ++ h ∷ []) [] ≡ record { handle = h; node = m } ∷ kept s order []
@@ -81,12 +64,12 @@ module _ {D : Type 0} where
 
     listed-made : (k : Handle) → IsSome (shown t k) → has_handle k (order ++ h ∷ []) ≡ true
     listed-made k p = has-push k h order ∙ elim (same_or_other h k) as (λ _. (has_handle k order || same_handle h k) ≡ true) [
-      | inl e ↦ ap (λ b. has_handle k order || b) e ∙ or_right (has_handle k order)
+      | inl e ↦ ap (λ b. has_handle k order || b) e ∙ or-true (has_handle k order)
       | inr e ↦ ap (λ b. b || same_handle h k) (is.listed k (subst IsSome (makes.there k (λ q. different h k e (sym q))) p))
     ]
 
     given-made : (k : Handle) → has_handle k (order ++ h ∷ []) ≡ true → k.generation < mark t k.slot
-    given-made k e = elim (either (has_handle k order) (same_handle h k) (sym (has-push k h order) ∙ e)) as (λ _. k.generation < mark t k.slot) [
+    given-made k e = elim (or_cases (has_handle k order) (same_handle h k) (sym (has-push k h order) ∙ e)) as (λ _. k.generation < mark t k.slot) [
       | inl a ↦ let l = is.given k a in let m = makes.marks k.slot in omega arith
       | inr b ↦ subst (λ (x : Handle). x.generation < mark t x.slot) ((same_handle-Decides h k).0 b) (let g = makes.given in omega arith)
     ]
@@ -96,12 +79,9 @@ module _ {D : Type 0} where
 
     shallow-made : m.depth ≤ 64 → (k : Handle) (n : Node D) → shown t k ≡ Some n → n.depth ≤ 64
     shallow-made deep k n e = elim (same_or_other h k) as (λ _. n.depth ≤ 64) [
-      | inl q ↦ let same : m ≡ n = same_some (sym makes.here ∙ ap (shown t) ((same_handle-Decides h k).0 q) ∙ e) in subst (λ (x : Node D). x.depth ≤ 64) same deep
+      | inl q ↦ let same : m ≡ n = some_same (sym makes.here ∙ ap (shown t) ((same_handle-Decides h k).0 q) ∙ e) in subst (λ (x : Node D). x.depth ≤ 64) same deep
       | inr q ↦ is.shallow k n (sym (makes.there k (λ f. different h k q (sym f))) ∙ e)
     ]
-      where
-        same_some : {A : Type 0} {a b : A} → Some a ≡ Some b → a ≡ b
-        same_some f = cc
 
     pub IsForest-made : (count : ℕ) → node_in (entry_in (entries_in (kept s order [])) (record { handle = h; node = m })) ≡ m → m.depth ≤ 64 → count ≤ 64
         → count ≡ page_count (entry_in (entries_in (kept s order [])) (record { handle = h; node = m }) ∷ entries_in (kept s order []))
@@ -123,6 +103,15 @@ module _ {D : Type 0} where
       first = makes.first ∙ is.first;
     }
 
+    -- its handle is listed
+    pub IsSwept-made : (dead : ℕ) → IsSwept s order dead → IsSwept t (order ++ h ∷ []) dead
+    IsSwept-made dead swept =
+        let long = length-append order (h ∷ []) in
+        let more = ap length kept-made in
+        let was = swept.counted in
+        let half = swept.half in
+        record { counted = omega (arith, long, more, was); half = omega (arith, long, half) }
+
     -- no live frame had the handle
     pub new-made : entry_of (forest_in s order).entries h ≡ None
     new-made = entry-absent (kept s order []) h is.nodes unkept
@@ -142,7 +131,7 @@ module _ {D : Type 0} where
         record {
           given = (let l = makes.marks k.slot in let e = mark-seen order t k.slot (makes.first ∙ is.first) in omega arith);
           gone =
-              let other : same_handle h k ≡ false = false_if (same_handle h k) (λ e.
+              let other : same_handle h k ≡ false = false_from_ne_true (same_handle h k) (λ e.
               let below = subst (λ (x : Handle). x.generation < mark s x.slot) (sym ((same_handle-Decides h k).0 e)) given in
               let first = makes.fresh in
               absurd (omega arith)) in
@@ -153,7 +142,8 @@ module _ {D : Type 0} where
 
   -- a row was taken in under this handle, and then rows were written, whose nodes stay
   pub record Steps (s mid t : Slots (Row D)) (h : Handle) (row : Row D) (change : Handle → Row D → Row D) : Type 0 where
-    pub next : IsNext s h.slot
+    pub new : live s h ≡ None
+    pub given : IsGiven s mid h
     pub fresh : h.generation ≡ mark s h.slot
     pub slots : mid ≡ holding s h.slot row
     pub taken : Updates s mid h (Some row)
@@ -186,20 +176,17 @@ module _ {D : Type 0} where
     mark-le : (j : ℕ) → mark s j ≤ mark t j
     mark-le j =
         let e = mark-then j in
-        let f = ap (λ x. mark x j) steps.slots in
-        let l = mark-le-holding s h.slot row steps.next j in
+        let l = steps.given.rising j in
         omega arith
 
     mark-here : mark t h.slot ≡ h.generation + 1
     mark-here =
         let e = mark-then h.slot in
-        let f = ap (λ x. mark x h.slot) steps.slots in
-        let l = mark-holding s h.slot row steps.next in
-        let g = steps.fresh in
+        let l = steps.given.last in
         omega arith
 
     mark-others : (j : ℕ) → j ≢ h.slot → mark t j ≡ mark s j
-    mark-others j ne = mark-then j ∙ ap (λ x. mark x j) steps.slots ∙ mark-other-holding s h.slot row steps.next j ne
+    mark-others j ne = mark-then j ∙ steps.given.others j ne
 
     made-then : t.made ≡ s.made + 1
     made-then = steps.then.same.made ∙ ap (λ x. x.made) steps.slots
@@ -207,13 +194,12 @@ module _ {D : Type 0} where
     counted-then : length t.slots + s.made ≤ length s.slots + t.made
     counted-then =
         let e = slots-kept mid t steps.then.same in
-        let f = ap (λ x. length x.slots) steps.slots in
-        let l = length-holding s h.slot row steps.next in
+        let l = steps.given.most in
         let d = made-then in
         omega arith
 
     unseen-before : shown s h ≡ None
-    unseen-before = ap (option_map (λ x. x.node)) (unlive-next s h steps.fresh)
+    unseen-before = ap (option_map (λ x. x.node)) steps.new
 
     shown-there : (j : Handle) → j ≢ h → shown t j ≡ shown s j
     shown-there j ne = ap (option_map (λ x. x.node)) (row-there j ne) ∙ same-nodes (live s j)
@@ -269,7 +255,7 @@ module _ {D : Type 0} where
           record { size = size ∙ was.size ∙ sym other; within = omega (arith, size, within) })
         where
           other_handle : (j : Handle) → j ≢ h → same_handle h j ≡ false
-          other_handle j ne = false_if (same_handle h j) (λ f. ne (sym ((same_handle-Decides h j).0 f)))
+          other_handle j ne = false_from_ne_true (same_handle h j) (λ f. ne (sym ((same_handle-Decides h j).0 f)))
 
       -- and once a frame was made below another
       pub sized-below : (e : Entry D) (k : Handle) → top_of e ≡ k → IsSome (change h row).node.parent

@@ -7,14 +7,12 @@ use Rattle.pe_frames.specs.declared.node.Node.{Node}
 use Rattle.pe_frames.specs.Forest.{Entry, path, same_handle, entry_of, node_in, top_of, first_of, page_size}
 use Rattle.pe_frames.specs.Kept.{Kept, node_at, above_in, entry_in, entries_in, AreNodes, AreApart}
 use Rattle.pe_frames.proofs.Nodes.{same_handle-Decides, same_or_other, entries-nodes}
+use Rattle.std.proofs.lemmas.Bool.{false_from_ne_true}
+use Rattle.pe_frames.proofs.Lemmas.{some_same}
 
-first-push : (ks : List Handle) (k h : Handle) → first_of (ks ++ k ∷ []) h ≡ first_of ks k
+pub first-push : (ks : List Handle) (k h : Handle) → first_of (ks ++ k ∷ []) h ≡ first_of ks k
 first-push [] k h = refl
 first-push (x ∷ ks) k h = refl
-
-pub not_same : (b : Bool) → (b ≡ true → ⊥) → b ≡ false
-not_same true f = absurd (f refl)
-not_same false f = refl
 
 module _ {D : Type 0} where
   -- the handle names a top frame
@@ -67,9 +65,6 @@ module _ {D : Type 0} where
     | inr s ↦ lift x xs (top_of e) are.1 apart.0 (top-found xs are.1 apart.1 h e (sym (ap (λ b. cond b (Some (entry_in (entries_in xs) x)) (entry_of (entries_in xs) h)) s) ∙ f))
   ]
     where
-      some_same : {A : Type 0} {a b : A} → Some a ≡ Some b → a ≡ b
-      some_same q = cc
-
       of_first : ((p : Handle) (a : Entry D) → entry_of (entries_in xs) p ≡ Some a → HasTop (entries_in xs) (top_of a)) → Above (entries_in xs) (above_in (entries_in xs) x.node.parent) → HasTop (entries_in (x ∷ xs)) (top_of (entry_in (entries_in xs) x))
       of_first older (nothing e) =
           subst (λ ks. HasTop (entries_in (x ∷ xs)) (first_of ks x.handle)) (sym e) (record {
@@ -108,6 +103,6 @@ module _ {D : Type 0} where
       other n none (below p a f q) =
           ap (λ ks. same_handle (first_of ks x.handle) h) q
           ∙ ap (λ k. same_handle k h) (first-push a.above a.handle x.handle)
-          ∙ not_same (same_handle (top_of a) h) (λ t.
+          ∙ false_from_ne_true (same_handle (top_of a) h) (λ t.
           let has = top-found xs are.1 apart.1 p a f in
           found_or_not (entries_in xs) (top_of a) has.top has.found (ap (entry_of (entries_in xs)) ((same_handle-Decides (top_of a) h).0 t) ∙ entry-absent xs h are.1 none))

@@ -8,18 +8,16 @@ use Rattle.pe_arena.specs.Slots.{Slot, Slots, live, mark, emptied, Updates}
 use Rattle.pe_frames.specs.declared.row.Row.{Row}
 use Rattle.pe_frames.specs.Forest.{same_handle, has_handle}
 use Rattle.pe_frames.specs.Links.{SameMarks, Removes, doc_before, docs_at}
-use Rattle.pe_frames.specs.Kept.{Kept, joined, shown, kept, Sweeps, AreOnce}
+use Rattle.pe_frames.specs.Kept.{Kept, joined, shown, kept, Sweeps, IsSwept, AreOnce}
 use Rattle.pe_frames.proofs.Nodes.{has-push, same_handle-Decides, same_or_other}
 use Rattle.pe_frames.proofs.Writes.{map-set_same, different, SameMarks-refl, SameMarks-then}
+use Rattle.std.proofs.Math.Bool.{or-true}
+use Rattle.std.proofs.lemmas.Bool.{or_right}
 
 swept-known : (p : Handle → Bool) (k : Handle) (hs : List Handle) → has_handle k (filter p hs) ≡ true → has_handle k hs ≡ true
 swept-known p k [] e = e
 swept-known p k (h ∷ hs) e = by_test (p h) e (λ q. swept-known p k hs q)
   where
-    or_right : (b c : Bool) → c ≡ true → (b || c) ≡ true
-    or_right true c q = refl
-    or_right false c q = q
-
     keep : (b c d : Bool) → (c ≡ true → d ≡ true) → (b || c) ≡ true → (b || d) ≡ true
     keep true c d f q = refl
     keep false c d f q = f q
@@ -37,12 +35,8 @@ swept-listed p k t (h ∷ hs) e = elim (same_or_other h k) as (λ _. has_handle 
   | inr q ↦ keep (p h) (swept-listed p k t hs (ap (λ b. b || has_handle k hs) (sym q) ∙ e))
 ]
   where
-    or_right : (b : Bool) → (b || true) ≡ true
-    or_right true = refl
-    or_right false = refl
-
     keep : (b : Bool) → has_handle k (filter p hs) ≡ true → has_handle k (cond b (h ∷ filter p hs) (filter p hs)) ≡ true
-    keep true r = ap (λ c. same_handle h k || c) r ∙ or_right (same_handle h k)
+    keep true r = ap (λ c. same_handle h k || c) r ∙ or-true (same_handle h k)
     keep false r = r
 
 module _ {D : Type 0} where
@@ -112,6 +106,25 @@ module _ {D : Type 0} where
           ap (λ o. kept s (cond (is_some o) (h ∷ filter (is_shown s) hs) (filter (is_shown s) hs)) xs) e
           ∙ rest (joined h (shown s h) xs)
 
+  -- as many frames are kept as handles are live
+  length-kept : (s : Slots (Row D)) (hs : List Handle) (xs : List (Kept D)) → length (kept s hs xs) ≡ length (filter (is_shown s) hs) + length xs
+  unfolding kept
+  length-kept s [] xs = omega arith
+  length-kept s (h ∷ hs) xs = by_row (live s h) refl (λ ys. length-kept s hs ys)
+    where
+      by_row : (o : Option (Row D)) → live s h ≡ o → ((ys : List (Kept D)) → length (kept s hs ys) ≡ length (filter (is_shown s) hs) + length ys)
+          → length (kept s hs (joined h (shown s h) xs)) ≡ length (cond (is_shown s h) (h ∷ filter (is_shown s) hs) (filter (is_shown s) hs)) + length xs
+      by_row None e rest =
+          let more = ap (λ (o : Option (Row D)). length (kept s hs (joined h (option_map (λ r. r.node) o) xs))) e in
+          let less = ap (λ (o : Option (Row D)). length (cond (is_some o) (h ∷ filter (is_shown s) hs) (filter (is_shown s) hs))) e in
+          let n = rest xs in
+          omega (arith, more, less, n)
+      by_row (Some r) e rest =
+          let more = ap (λ (o : Option (Row D)). length (kept s hs (joined h (option_map (λ r. r.node) o) xs))) e in
+          let less = ap (λ (o : Option (Row D)). length (cond (is_some o) (h ∷ filter (is_shown s) hs) (filter (is_shown s) hs))) e in
+          let n = rest (record { handle = h; node = r.node } ∷ xs) in
+          omega (arith, more, less, n)
+
   live_of : (o : Option (Row D)) → IsSome (option_map (λ r. r.node) o) → is_some o ≡ true
   live_of None p = absurd (true≢false (sym p))
   live_of (Some r) p = refl
@@ -123,14 +136,18 @@ module _ {D : Type 0} where
     known = λ h q. swept-known (is_shown s) h old q;
   })
 
+  -- no dead handle is listed then
+  pub IsSwept-filter : (s : Slots (Row D)) (old new : List Handle) → new ≡ filter (is_shown s) old → IsSwept s new 0
+  IsSwept-filter s old new e =
+      let n = ap length e in
+      let same = ap length (ap (λ hs. kept s hs []) e ∙ kept-swept s old []) in
+      let all = length-kept s old [] in
+      record { counted = omega (arith, n, same, all); half = omega arith }
+
 get-has : (ks : List Handle) (i : ℕ) (d : Handle) → i < length ks → has_handle (get_or ks i d) ks ≡ true
 get-has [] i d lt = absurd (omega (arith, lt))
 get-has (k ∷ ks) zero d lt = ap (λ b. b || has_handle k ks) ((same_handle-Decides k k).1 refl)
-get-has (k ∷ ks) (suc i) d lt = ap (λ b. same_handle k (get_or ks i d) || b) (get-has ks i d (omega (arith, lt))) ∙ or_right (same_handle k (get_or ks i d))
-  where
-    or_right : (b : Bool) → (b || true) ≡ true
-    or_right true = refl
-    or_right false = refl
+get-has (k ∷ ks) (suc i) d lt = ap (λ b. same_handle k (get_or ks i d) || b) (get-has ks i d (omega (arith, lt))) ∙ or-true (same_handle k (get_or ks i d))
 
 -- what stands at a place does not stand before it
 pub once-at : (ks : List Handle) (i : ℕ) (d : Handle) → AreOnce ks → i < length ks → has_handle (get_or ks i d) (take i ks) ≡ false

@@ -1,5 +1,5 @@
 -- The row that has the size of a live frame's page.
-use Rattle.std.proofs.Common.{◌≡◌, ℕ, List, [], Option, None, Some, refl, sym, ap, ◌∙◌}
+use Rattle.std.proofs.Common.{◌≡◌, ◌≤◌, ℕ, List, [], Option, None, Some, refl, sym, ap, ◌∙◌}
 use Rattle.std.specs.Option.{option_map}
 use Rattle.pe_arena.specs.declared.handle.Handle.{Handle}
 use Rattle.pe_arena.specs.Slots.{Slots, live}
@@ -42,6 +42,7 @@ module _ {D : Type 0} where
     pub row : Row D
     pub found : live s k ≡ Some row
     pub size : option_map (λ e. page_size es (top_of e)) (entry_of es h) ≡ Some row.size
+    pub within : row.size ≤ 256
 
   pub PageRow-live : (s : Slots (Row D)) (order : List Handle) (pages : ℕ) → IsForest s order pages → (h k : Handle) → option_map top_of (entry_of (entries_in (kept s order [])) h) ≡ Some k → PageRow s (entries_in (kept s order [])) h k
   PageRow-live s order pages is h k e = by_entry (entry_of (entries_in (kept s order [])) h) refl e
@@ -55,4 +56,5 @@ module _ {D : Type 0} where
             row = row.row;
             found = ap (live s) (sym same) ∙ row.found;
             size = ap (option_map (λ x. page_size (entries_in (kept s order [])) (top_of x))) f ∙ ap Some (sym row.sized.size);
+            within = row.sized.within;
           }

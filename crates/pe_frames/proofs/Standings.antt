@@ -10,6 +10,7 @@ use Rattle.pe_frames.specs.Forest.{Entry, entry_of, node_in}
 use Rattle.pe_frames.specs.Links.{links_in}
 use Rattle.pe_frames.specs.Kept.{kept, entries_in, standing_in, HasLinks, IsForest}
 use Rattle.pe_frames.proofs.Nodes.{found-live}
+use Rattle.pe_frames.proofs.Lemmas.{some_same}
 
 module _ {D : Type 0} where
   -- where the frame of a row stands
@@ -24,9 +25,6 @@ module _ {D : Type 0} where
       let same : r.node ≡ node_in e = some_same q in
       ap (λ l. Some (record { parent = r.node.parent; top = r.node.top; depth = r.node.depth; links = l })) (links r refl)
       ∙ ap (λ (n : Node D). Some (record { parent = n.parent; top = n.top; depth = n.depth; links = links_in es h n.parent })) same
-    where
-      some_same : {A : Type 0} {a b : A} → Some a ≡ Some b → a ≡ b
-      some_same q = cc
 
   -- where a live frame stands, by its row
   pub standing-live : (s : Slots (Row D)) (order : List Handle) (pages : ℕ) → IsForest s order pages → (h : Handle) → option_map standing_row (live s h) ≡ option_map (standing_in (entries_in (kept s order [])) h) (entry_of (entries_in (kept s order [])) h)
@@ -49,9 +47,6 @@ module _ {D : Type 0} where
   pub stands-at : (es : List (Entry D)) (h : Handle) (o : Option Standing) (here : Standing) → o ≡ Some here → o ≡ option_map (standing_in es h) (entry_of es h) → StandsAt es h here
   stands-at es h o here e q = by_entry (entry_of es h) refl (sym e ∙ q)
     where
-      some_same : {A : Type 0} {a b : A} → Some a ≡ Some b → a ≡ b
-      some_same f = cc
-
       by_entry : (x : Option (Entry D)) → entry_of es h ≡ x → Some here ≡ option_map (standing_in es h) x → StandsAt es h here
       by_entry None f q = absurd (true≢false (ap is_some q))
       by_entry (Some x) f q = record { entry = x; found = f; is = some_same q }

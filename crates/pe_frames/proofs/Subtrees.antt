@@ -1,24 +1,15 @@
 -- Where the frames below one stand among those below another, in tree order.
-use Rattle.std.proofs.Common.{◌≡◌, inl, inr, ℕ, zero, suc, ◌≤◌, Bool, true, false, ◌||◌, List, [], ◌∷◌, ◌++◌, length, length-append, append_assoc, Some, refl, sym, ap, ◌∙◌, arith, true≢false}
+use Rattle.std.proofs.Common.{◌≡◌, inl, inr, ℕ, zero, suc, ◌≤◌, true, false, ◌||◌, List, [], ◌∷◌, ◌++◌, length, length-append, append_assoc, Some, refl, sym, ap, ◌∙◌, arith, true≢false}
 use Rattle.std.proofs.lemmas.List.{append-nil}
 use Rattle.pe_arena.specs.declared.handle.Handle.{Handle}
 use Rattle.pe_frames.specs.Forest.{Entry, same_handle, has_handle, last_of, path, parent_of, entry_of, is_under}
 use Rattle.pe_frames.specs.Order.{children}
-use Rattle.pe_frames.proofs.Nodes.{same_handle-Decides, same_or_other}
+use Rattle.pe_frames.proofs.Nodes.{same_handle-Decides, same_or_other, has-append}
 use Rattle.pe_frames.proofs.Below.{entry-handle}
 use Rattle.pe_frames.proofs.Tree.{IsTree}
-use Rattle.pe_frames.proofs.TreeOrder.{walk, walks, walks-append, walk-is, has-append}
-
-some_same : {A : Type 0} {a b : A} → Some a ≡ Some b → a ≡ b
-some_same q = cc
-
-or_false : (b : Bool) → (b || false) ≡ b
-or_false true = refl
-or_false false = refl
-
-or_true : (b : Bool) → (b || true) ≡ true
-or_true true = refl
-or_true false = refl
+use Rattle.pe_frames.proofs.TreeOrder.{walk, walks, walks-append, walk-is}
+use Rattle.std.proofs.Math.Bool.{or-false, or-true}
+use Rattle.pe_frames.proofs.Lemmas.{some_same}
 
 -- the last of a list that has one
 record LastOf (ks : List Handle) : Type 0 where
@@ -38,11 +29,11 @@ module _ {D : Type 0} where
 
   -- a frame that is not the root is below it where its parent is the root or below it
   pub under-other : (root : Handle) (e : Entry D) → same_handle e.handle root ≡ false → is_under root e ≡ has_handle root e.above
-  under-other root e f = has-append root e.above (e.handle ∷ []) ∙ ap (λ b. has_handle root e.above || (b || false)) f ∙ or_false (has_handle root e.above)
+  under-other root e f = has-append root e.above (e.handle ∷ []) ∙ ap (λ b. has_handle root e.above || (b || false)) f ∙ or-false (has_handle root e.above)
 
   -- a frame is below itself
   pub under-same : (root : Handle) (e : Entry D) → same_handle e.handle root ≡ true → is_under root e ≡ true
-  under-same root e t = has-append root e.above (e.handle ∷ []) ∙ ap (λ b. has_handle root e.above || (b || false)) t ∙ or_true (has_handle root e.above)
+  under-same root e t = has-append root e.above (e.handle ∷ []) ∙ ap (λ b. has_handle root e.above || (b || false)) t ∙ or-true (has_handle root e.above)
 
   -- the live parent of a live frame, where the frame is below the root and not the root
   pub record IsUp (es : List (Entry D)) (root : Handle) (e : Entry D) : Type 0 where
@@ -126,4 +117,4 @@ module _ {D : Type 0} where
         ap (has_handle e.handle) (at.is ∙ ap (λ ks. at.front ++ (ks ++ at.back)) (walk-is es levels tree n enough e f))
         ∙ has-append e.handle at.front (e.handle ∷ (walks n es (children es e.handle) ++ at.back))
         ∙ ap (λ b. has_handle e.handle at.front || (b || has_handle e.handle (walks n es (children es e.handle) ++ at.back))) ((same_handle-Decides e.handle e.handle).1 refl)
-        ∙ or_true (has_handle e.handle at.front)
+        ∙ or-true (has_handle e.handle at.front)

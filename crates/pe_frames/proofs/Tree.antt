@@ -1,5 +1,5 @@
 -- The list of frames as a tree: parents, children and depths, with nothing of how it is kept.
-use Rattle.std.proofs.Common.{◌≡◌, ◌⊎◌, inl, inr, ℕ, ◌≤◌, Bool, true, false, cond, List, [], ◌∷◌, ◌++◌, length, append_assoc, Option, None, Some, is_some, refl, sym, ap, subst, ◌∙◌, true≢false}
+use Rattle.std.proofs.Common.{◌≡◌, inl, inr, ℕ, ◌≤◌, Bool, true, false, cond, List, [], ◌∷◌, ◌++◌, length, append_assoc, Option, None, Some, is_some, refl, sym, ap, subst, ◌∙◌, true≢false}
 use Rattle.std.specs.Prelude.{⊤}
 use Rattle.pe_arena.specs.declared.handle.Handle.{Handle}
 use Rattle.pe_frames.specs.Forest.{Entry, same_handle, last_of, path, parent_of, entry_of}
@@ -7,10 +7,12 @@ use Rattle.pe_frames.specs.Order.{is_named, is_child, children, child_handles}
 use Rattle.pe_frames.specs.Links.{young}
 use Rattle.pe_frames.specs.Kept.{Kept, node_at, above_in, entry_in, entries_in, AreNodes, AreApart, AreOnce}
 use Rattle.pe_frames.proofs.Nodes.{same_handle-Decides, same_or_other}
-use Rattle.pe_frames.proofs.Pages.{Above, above-of, nothing, below, entry-absent, not_same}
+use Rattle.pe_frames.proofs.Pages.{Above, above-of, nothing, below, entry-absent}
+use Rattle.std.proofs.lemmas.Bool.{false_from_ne_true}
 use Rattle.pe_frames.proofs.Below.{last-push, entry-handle}
 use Rattle.pe_frames.proofs.Children.{children-turned, once-turned}
 use Rattle.pe_frames.proofs.Kin.{children-once}
+use Rattle.pe_frames.proofs.Lemmas.{some_same}
 
 -- each of the list is so
 abbrev pub Each : {A : Type 0} → (A → Type 0) → List A → Type 0
@@ -30,13 +32,6 @@ pub record Splits {A : Type 0} (xs : List A) (x : A) : Type 0 where
   pub front : List A
   pub back : List A
   pub is : xs ≡ front ++ x ∷ back
-
-true_or_false : (b : Bool) → (b ≡ true) ⊎ (b ≡ false)
-true_or_false true = inl refl
-true_or_false false = inr refl
-
-some_same : {A : Type 0} {a b : A} → Some a ≡ Some b → a ≡ b
-some_same q = cc
 
 named_is : (o : Option Handle) (p : Handle) → is_named o p ≡ true → o ≡ Some p
 named_is None p e = absurd (true≢false (sym e))
@@ -69,7 +64,7 @@ module _ {D : Type 0} where
   -- a frame keeps its place behind a newer one
   pub stays : (x : Kept D) (xs : List (Kept D)) → AreNodes xs → node_at xs x.handle ≡ None → (k : Handle) (e : Entry D) → entry_of (entries_in xs) k ≡ Some e → entry_of (entries_in (x ∷ xs)) k ≡ Some e
   stays x xs are none k e f =
-      let other : same_handle x.handle k ≡ false = not_same (same_handle x.handle k) (λ t.
+      let other : same_handle x.handle k ≡ false = false_from_ne_true (same_handle x.handle k) (λ t.
       true≢false (sym (ap is_some f) ∙ ap is_some (ap (entry_of (entries_in xs)) (sym ((same_handle-Decides x.handle k).0 t)) ∙ entry-absent xs x.handle are none))) in
       ap (λ b. cond b (Some (entry_in (entries_in xs) x)) (entry_of (entries_in xs) k)) other ∙ f
 

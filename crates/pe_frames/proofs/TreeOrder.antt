@@ -1,44 +1,24 @@
 -- The frames below another, in tree order: they are live, they stand below it, and none stands there twice.
-use Rattle.std.proofs.Common.{◌≡◌, ◌⊎◌, inl, inr, ℕ, zero, suc, ◌+◌, ◌≤◌, Bool, true, false, ◌||◌, List, [], ◌∷◌, ◌++◌, map, length, length-append, append_assoc, Some, refl, sym, ap, subst, ◌∙◌, arith, true≢false}
+use Rattle.std.proofs.Common.{◌≡◌, inl, inr, ℕ, zero, suc, ◌+◌, ◌≤◌, true, false, ◌||◌, List, [], ◌∷◌, ◌++◌, map, length, length-append, append_assoc, Some, refl, sym, ap, subst, ◌∙◌, arith, true≢false}
 use Rattle.std.specs.List.{flat_map}
 use Rattle.std.proofs.lemmas.List.{append-nil, append_cancel_left, map-append}
 use Rattle.pe_arena.specs.declared.handle.Handle.{Handle}
 use Rattle.pe_frames.specs.Forest.{Entry, same_handle, has_handle, path, entry_of}
 use Rattle.pe_frames.specs.Order.{children, tree_order}
 use Rattle.pe_frames.specs.Kept.{AreOnce}
-use Rattle.pe_frames.proofs.Nodes.{same_handle-Decides}
-use Rattle.pe_frames.proofs.Pages.{not_same}
+use Rattle.pe_frames.proofs.Nodes.{same_handle-Decides, has-append}
+use Rattle.std.proofs.lemmas.Bool.{false_from_ne_true, or_cases, or_from}
 use Rattle.pe_frames.proofs.Tree.{Each, each-append, each-map, IsChild, IsTree}
-
-some_same : {A : Type 0} {a b : A} → Some a ≡ Some b → a ≡ b
-some_same q = cc
-
-either : (a b : Bool) → (a || b) ≡ true → (a ≡ true) ⊎ (b ≡ true)
-either true b e = inl refl
-either false b e = inr e
-
-or_false : (a b : Bool) → a ≡ false → b ≡ false → (a || b) ≡ false
-or_false a b p q = ap (λ x. x || b) p ∙ q
-
-pub has-append : (k : Handle) (a b : List Handle) → has_handle k (a ++ b) ≡ (has_handle k a || has_handle k b)
-has-append k [] b = refl
-has-append k (x ∷ a) b = ap (λ t. same_handle x k || t) (has-append k a b) ∙ regroup (same_handle x k) (has_handle k a) (has_handle k b)
-  where
-    regroup : (u v w : Bool) → (u || (v || w)) ≡ ((u || v) || w)
-    regroup true v w = refl
-    regroup false v w = refl
+use Rattle.std.proofs.Math.Bool.{or-true}
+use Rattle.pe_frames.proofs.Lemmas.{some_same}
 
 -- two lists that share no handle, and each of which has none twice
 once-append : (a b : List Handle) → AreOnce a → AreOnce b → ((k : Handle) → has_handle k a ≡ true → has_handle k b ≡ true → ⊥) → AreOnce (a ++ b)
 once-append [] b p q apart = q
 once-append (x ∷ a) b p q apart = (
-  has-append x a b ∙ or_false (has_handle x a) (has_handle x b) p.0 (not_same (has_handle x b) (λ t. apart x (ap (λ u. u || has_handle x a) ((same_handle-Decides x x).1 refl)) t)),
-  once-append a b p.1 q (λ k s t. apart k (ap (λ u. same_handle x k || u) s ∙ or_true (same_handle x k)) t),
+  has-append x a b ∙ or_from (has_handle x a) (has_handle x b) p.0 (false_from_ne_true (has_handle x b) (λ t. apart x (ap (λ u. u || has_handle x a) ((same_handle-Decides x x).1 refl)) t)),
+  once-append a b p.1 q (λ k s t. apart k (ap (λ u. same_handle x k || u) s ∙ or-true (same_handle x k)) t),
 )
-  where
-    or_true : (u : Bool) → (u || true) ≡ true
-    or_true true = refl
-    or_true false = refl
 
 module _ {D : Type 0} where
   -- the handles of the frame and those below it, in tree order
@@ -98,7 +78,7 @@ module _ {D : Type 0} where
     below-each : (n : ℕ) (k : Handle) → ((c : Entry D) → entry_of es c.handle ≡ Some c → has_handle k (walk n es c) ≡ true → UnderAt es c k)
         → (e : Entry D) (cs : List (Entry D)) → Each (IsNext es e) cs → has_handle k (walks n es cs) ≡ true → BelowAt es e cs k
     below-each n k under e [] next t = absurd (true≢false (sym t))
-    below-each n k under e (c ∷ cs) next t = elim (either (has_handle k (walk n es c)) (has_handle k (walks n es cs)) (sym (has-append k (walk n es c) (walks n es cs)) ∙ t)) as (λ _. BelowAt es e (c ∷ cs) k) [
+    below-each n k under e (c ∷ cs) next t = elim (or_cases (has_handle k (walk n es c)) (has_handle k (walks n es cs)) (sym (has-append k (walk n es c) (walks n es cs)) ∙ t)) as (λ _. BelowAt es e (c ∷ cs) k) [
       | inl a ↦
           let u = under c next.0.found a in
           record {
@@ -115,26 +95,22 @@ module _ {D : Type 0} where
             entry = u.entry;
             found = u.found;
             child = u.child;
-            listed = ap (λ v. same_handle c.handle u.child || v) u.listed ∙ or_true (same_handle c.handle u.child);
+            listed = ap (λ v. same_handle c.handle u.child || v) u.listed ∙ or-true (same_handle c.handle u.child);
             rest = u.rest;
             is = u.is;
           }
     ]
-      where
-        or_true : (u : Bool) → (u || true) ≡ true
-        or_true true = refl
-        or_true false = refl
 
     itself : (e : Entry D) → entry_of es e.handle ≡ Some e → (k : Handle) → same_handle e.handle k ≡ true → UnderAt es e k
     itself e f k t = record { entry = e; found = ap (entry_of es) (sym ((same_handle-Decides e.handle k).0 t)) ∙ f; rest = []; is = sym (append-nil (path e)) }
 
     -- each handle of the walk is of a live frame, which is the first one or below it
     pub walk-under : (n : ℕ) (e : Entry D) → entry_of es e.handle ≡ Some e → (k : Handle) → has_handle k (walk n es e) ≡ true → UnderAt es e k
-    walk-under zero e f k t = elim (either (same_handle e.handle k) false (sym (ap (has_handle k) (walk-zero es e)) ∙ t)) as (λ _. UnderAt es e k) [
+    walk-under zero e f k t = elim (or_cases (same_handle e.handle k) false (sym (ap (has_handle k) (walk-zero es e)) ∙ t)) as (λ _. UnderAt es e k) [
       | inl a ↦ itself e f k a
       | inr b ↦ absurd (true≢false (sym b))
     ]
-    walk-under (suc n) e f k t = elim (either (same_handle e.handle k) (has_handle k (walks n es (children es e.handle))) (sym (ap (has_handle k) (walk-suc n es e)) ∙ t)) as (λ _. UnderAt es e k) [
+    walk-under (suc n) e f k t = elim (or_cases (same_handle e.handle k) (has_handle k (walks n es (children es e.handle))) (sym (ap (has_handle k) (walk-suc n es e)) ∙ t)) as (λ _. UnderAt es e k) [
       | inl a ↦ itself e f k a
       | inr b ↦
           let u = below-each n k (λ c g s. walk-under n c g k s) e (children es e.handle) (children-next e f) b in
@@ -173,7 +149,7 @@ module _ {D : Type 0} where
     pub walk-once : (n : ℕ) (e : Entry D) → entry_of es e.handle ≡ Some e → AreOnce (walk n es e)
     walk-once zero e f = subst AreOnce (sym (walk-zero es e)) (refl, tt)
     walk-once (suc n) e f = subst AreOnce (sym (walk-suc n es e)) (
-      not_same (has_handle e.handle (walks n es (children es e.handle))) (λ t.
+      false_from_ne_true (has_handle e.handle (walks n es (children es e.handle))) (λ t.
           let b = walks-below n e (children es e.handle) (children-next e f) e.handle t in
           let same : b.entry ≡ e = some_same (sym b.found ∙ f) in
           let long = ap length (sym b.is ∙ ap path same) in

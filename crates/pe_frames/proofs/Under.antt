@@ -8,10 +8,10 @@ use Rattle.pe_frames.specs.declared.row.Row.{Row}
 use Rattle.pe_frames.specs.Forest.{Entry, Forest, has_handle, path, entry_of, node_in, is_under}
 use Rattle.pe_frames.specs.Order.{in_tree_order, handles_under}
 use Rattle.pe_frames.specs.Kept.{kept, entries_in, forest_in, IsForest, AreOnce}
-use Rattle.pe_frames.proofs.Nodes.{same_handle-Decides, found-live}
+use Rattle.pe_frames.proofs.Nodes.{same_handle-Decides, found-live, has-append}
 use Rattle.pe_frames.proofs.Below.{entry-handle}
 use Rattle.pe_frames.proofs.Tree.{Each, IsTree, tree-of}
-use Rattle.pe_frames.proofs.TreeOrder.{walk, walk-under, walk-once, walk-live, has-append}
+use Rattle.pe_frames.proofs.TreeOrder.{walk, walk-under, walk-once, walk-live}
 use Rattle.pe_frames.proofs.Subtrees.{walk-all, under-same}
 
 module _ {D : Type 0} where
@@ -35,7 +35,7 @@ module _ {D : Type 0} where
   pub handles-are : (es : List (Entry D)) (h : Handle) (e : Entry D) → entry_of es h ≡ Some e → handles_under es h ≡ walk DEPTH_LIMIT es e
   handles-are es h e f = rw f refl
 
-  handles-none : (es : List (Entry D)) (h : Handle) → entry_of es h ≡ None → handles_under es h ≡ []
+  pub handles-none : (es : List (Entry D)) (h : Handle) → entry_of es h ≡ None → handles_under es h ≡ []
   handles-none es h f = rw f refl
 
   -- the frame has its handle

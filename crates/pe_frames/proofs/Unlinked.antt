@@ -11,21 +11,16 @@ use Rattle.pe_frames.specs.Forest.{Entry, same_handle, has_handle, last_of, entr
 use Rattle.pe_frames.specs.Order.{is_named, head_of, after, is_child, handles_under}
 use Rattle.pe_frames.specs.Links.{before, links_by, young, siblings, links_in, at, with_first, with_last, with_earlier, with_later, unlinked}
 use Rattle.pe_frames.specs.Kept.{Kept, entries_in, AreNodes, AreApart, AreOnce, HasLinks}
-use Rattle.pe_frames.proofs.Nodes.{same_handle-Decides, entries-nodes}
-use Rattle.pe_frames.proofs.Pages.{not_same}
+use Rattle.pe_frames.proofs.Nodes.{same_handle-Decides, entries-nodes, other-turned}
+use Rattle.std.proofs.lemmas.Bool.{false_from_ne_true, cases_Bool}
 use Rattle.pe_frames.proofs.Children.{born, before-absent, after-absent, is_named-of}
 use Rattle.pe_frames.proofs.Kin.{children-once}
 use Rattle.pe_frames.proofs.Tree.{Each, IsTree}
 use Rattle.pe_frames.proofs.Cuts.{each-live}
 use Rattle.pe_frames.proofs.Without.{without, without-absent, head-without, last-without, after-without, before-without}
-use Rattle.pe_frames.proofs.Within.{true_or_false, young-stays, child-goes, children-less, goes-under}
-
-some_same : {A : Type 0} {a b : A} → Some a ≡ Some b → a ≡ b
-some_same e = cc
-
-or_true : (b : Bool) → (b || true) ≡ true
-or_true true = refl
-or_true false = refl
+use Rattle.pe_frames.proofs.Within.{young-stays, child-goes, children-less, goes-under}
+use Rattle.std.proofs.Math.Bool.{or-true}
+use Rattle.pe_frames.proofs.Lemmas.{some_same}
 
 named_is : (o : Option Handle) (p : Handle) → is_named o p ≡ true → o ≡ Some p
 named_is None p e = absurd (true≢false (sym e))
@@ -41,15 +36,15 @@ before-has h k (a ∷ ks) e = by_test (is_named (head_of ks) h) e (λ q. before-
   where
     by_test : (b : Bool) → is_named (cond b (Some a) (before h ks)) k ≡ true → (is_named (before h ks) k ≡ true → has_handle k ks ≡ true) → has_handle k (a ∷ ks) ≡ true
     by_test true q rest = ap (λ b. b || has_handle k ks) q
-    by_test false q rest = ap (λ b. same_handle a k || b) (rest q) ∙ or_true (same_handle a k)
+    by_test false q rest = ap (λ b. same_handle a k || b) (rest q) ∙ or-true (same_handle a k)
 
 pub after-has : (h k : Handle) (ks : List Handle) → is_named (after h ks) k ≡ true → has_handle k ks ≡ true
 after-has h k [] e = absurd (true≢false (sym e))
 after-has h k (a ∷ ks) e = by_test (same_handle a h) e (λ q. after-has h k ks q)
   where
     by_test : (b : Bool) → is_named (cond b (head_of ks) (after h ks)) k ≡ true → (is_named (after h ks) k ≡ true → has_handle k ks ≡ true) → has_handle k (a ∷ ks) ≡ true
-    by_test true q rest = ap (λ b. same_handle a k || b) (head-has k ks q) ∙ or_true (same_handle a k)
-    by_test false q rest = ap (λ b. same_handle a k || b) (rest q) ∙ or_true (same_handle a k)
+    by_test true q rest = ap (λ b. same_handle a k || b) (head-has k ks q) ∙ or-true (same_handle a k)
+    by_test false q rest = ap (λ b. same_handle a k || b) (rest q) ∙ or-true (same_handle a k)
 
 module _ {D : Type 0} where
   first-step : (b : Bool) (o : Option Handle) (r : Row D) → (cond b (with_first o r) r).links ≡ record r.links { first = cond b o r.links.first }
@@ -112,7 +107,7 @@ module _ {D : Type 0} where
   child-listed (x ∷ es) h p e f q = by_head (same_handle x.handle h) refl f (λ g. child-listed es h p e g q)
     where
       by_child : (b : Bool) → has_handle h (young es p) ≡ true → has_handle h (cond b (x.handle ∷ young es p) (young es p)) ≡ true
-      by_child true r = ap (λ c. same_handle x.handle h || c) r ∙ or_true (same_handle x.handle h)
+      by_child true r = ap (λ c. same_handle x.handle h || c) r ∙ or-true (same_handle x.handle h)
       by_child false r = r
 
       by_head : (b : Bool) → same_handle x.handle h ≡ b → cond b (Some x) (entry_of es h) ≡ Some e → (entry_of es h ≡ Some e → has_handle h (young es p) ≡ true) → has_handle h (cond (is_child p x) (x.handle ∷ young es p) (young es p)) ≡ true
@@ -137,7 +132,7 @@ module _ {D : Type 0} where
 
     module _ (h : Handle) (e : Entry D) (found : entry_of (entries_in xs) h ≡ Some e) where
       first-closed : (k : Handle) → cond (is_named (cond (is_none (after h (siblings (entries_in xs) (parent_of e)))) (parent_of e) None) k) (before h (siblings (entries_in xs) (parent_of e))) (last_of (young (entries_in xs) k)) ≡ last_of (without h (young (entries_in xs) k))
-      first-closed k = elim (true_or_false (has_handle h (young (entries_in xs) k))) as (λ _. cond (is_named (cond (is_none (after h (siblings (entries_in xs) (parent_of e)))) (parent_of e) None) k) (before h (siblings (entries_in xs) (parent_of e))) (last_of (young (entries_in xs) k)) ≡ last_of (without h (young (entries_in xs) k))) [
+      first-closed k = elim (cases_Bool (has_handle h (young (entries_in xs) k))) as (λ _. cond (is_named (cond (is_none (after h (siblings (entries_in xs) (parent_of e)))) (parent_of e) None) k) (before h (siblings (entries_in xs) (parent_of e))) (last_of (young (entries_in xs) k)) ≡ last_of (without h (young (entries_in xs) k))) [
         | inl t ↦
             ap (λ o. cond (is_named (cond (is_none (after h (siblings (entries_in xs) o))) o None) k) (before h (siblings (entries_in xs) o)) (last_of (young (entries_in xs) k))) (sibling-parent h e found (Some k) t)
             ∙ by_test (is_none (after h (young (entries_in xs) k))) (before h (young (entries_in xs) k)) (last_of (young (entries_in xs) k))
@@ -152,11 +147,11 @@ module _ {D : Type 0} where
           by_test false u v = refl
 
           other : (b : Bool) → has_handle h (young (entries_in xs) k) ≡ false → is_named (cond b (parent_of e) None) k ≡ false
-          other true u = not_same (is_named (parent_of e) k) (λ t. true≢false (sym (child-listed (entries_in xs) h k e found (named_is (parent_of e) k t)) ∙ u))
+          other true u = false_from_ne_true (is_named (parent_of e) k) (λ t. true≢false (sym (child-listed (entries_in xs) h k e found (named_is (parent_of e) k t)) ∙ u))
           other false u = refl
 
       last-closed : (k : Handle) → cond (is_named (cond (is_none (before h (siblings (entries_in xs) (parent_of e)))) (parent_of e) None) k) (after h (siblings (entries_in xs) (parent_of e))) (head_of (young (entries_in xs) k)) ≡ head_of (without h (young (entries_in xs) k))
-      last-closed k = elim (true_or_false (has_handle h (young (entries_in xs) k))) as (λ _. cond (is_named (cond (is_none (before h (siblings (entries_in xs) (parent_of e)))) (parent_of e) None) k) (after h (siblings (entries_in xs) (parent_of e))) (head_of (young (entries_in xs) k)) ≡ head_of (without h (young (entries_in xs) k))) [
+      last-closed k = elim (cases_Bool (has_handle h (young (entries_in xs) k))) as (λ _. cond (is_named (cond (is_none (before h (siblings (entries_in xs) (parent_of e)))) (parent_of e) None) k) (after h (siblings (entries_in xs) (parent_of e))) (head_of (young (entries_in xs) k)) ≡ head_of (without h (young (entries_in xs) k))) [
         | inl t ↦
             ap (λ o. cond (is_named (cond (is_none (before h (siblings (entries_in xs) o))) o None) k) (after h (siblings (entries_in xs) o)) (head_of (young (entries_in xs) k))) (sibling-parent h e found (Some k) t)
             ∙ by_test (is_none (before h (young (entries_in xs) k))) (after h (young (entries_in xs) k)) (head_of (young (entries_in xs) k))
@@ -171,29 +166,29 @@ module _ {D : Type 0} where
           by_test false u v = refl
 
           other : (b : Bool) → has_handle h (young (entries_in xs) k) ≡ false → is_named (cond b (parent_of e) None) k ≡ false
-          other true u = not_same (is_named (parent_of e) k) (λ t. true≢false (sym (child-listed (entries_in xs) h k e found (named_is (parent_of e) k t)) ∙ u))
+          other true u = false_from_ne_true (is_named (parent_of e) k) (λ t. true≢false (sym (child-listed (entries_in xs) h k e found (named_is (parent_of e) k t)) ∙ u))
           other false u = refl
 
       module _ (k : Handle) (x : Entry D) (f : entry_of (entries_in xs) k ≡ Some x) (ne : same_handle h k ≡ false) where
         earlier-closed : cond (is_named (before h (siblings (entries_in xs) (parent_of e))) k) (after h (siblings (entries_in xs) (parent_of e))) (after k (siblings (entries_in xs) (parent_of x))) ≡ after k (without h (siblings (entries_in xs) (parent_of x)))
-        earlier-closed = elim (true_or_false (has_handle h (siblings (entries_in xs) (parent_of x)))) as (λ _. cond (is_named (before h (siblings (entries_in xs) (parent_of e))) k) (after h (siblings (entries_in xs) (parent_of e))) (after k (siblings (entries_in xs) (parent_of x))) ≡ after k (without h (siblings (entries_in xs) (parent_of x)))) [
+        earlier-closed = elim (cases_Bool (has_handle h (siblings (entries_in xs) (parent_of x)))) as (λ _. cond (is_named (before h (siblings (entries_in xs) (parent_of e))) k) (after h (siblings (entries_in xs) (parent_of e))) (after k (siblings (entries_in xs) (parent_of x))) ≡ after k (without h (siblings (entries_in xs) (parent_of x)))) [
           | inl t ↦
               ap (λ o. cond (is_named (before h (siblings (entries_in xs) o)) k) (after h (siblings (entries_in xs) o)) (after k (siblings (entries_in xs) (parent_of x)))) (sibling-parent h e found (parent_of x) t)
               ∙ sym (after-without h (siblings (entries_in xs) (parent_of x)) (siblings-once (parent_of x)) t k ne)
           | inr u ↦
-              ap (λ b. cond b (after h (siblings (entries_in xs) (parent_of e))) (after k (siblings (entries_in xs) (parent_of x)))) (not_same (is_named (before h (siblings (entries_in xs) (parent_of e))) k) (λ t.
+              ap (λ b. cond b (after h (siblings (entries_in xs) (parent_of e))) (after k (siblings (entries_in xs) (parent_of x)))) (false_from_ne_true (is_named (before h (siblings (entries_in xs) (parent_of e))) k) (λ t.
               let same = sibling-parent k x f (parent_of e) (before-has h k (siblings (entries_in xs) (parent_of e)) t) in
               true≢false (sym t ∙ ap (λ o. is_named o k) (ap (λ o. before h (siblings (entries_in xs) o)) (sym same) ∙ before-absent h (siblings (entries_in xs) (parent_of x)) u))))
               ∙ ap (after k) (sym (without-absent h (siblings (entries_in xs) (parent_of x)) u))
         ]
 
         later-closed : cond (is_named (after h (siblings (entries_in xs) (parent_of e))) k) (before h (siblings (entries_in xs) (parent_of e))) (before k (siblings (entries_in xs) (parent_of x))) ≡ before k (without h (siblings (entries_in xs) (parent_of x)))
-        later-closed = elim (true_or_false (has_handle h (siblings (entries_in xs) (parent_of x)))) as (λ _. cond (is_named (after h (siblings (entries_in xs) (parent_of e))) k) (before h (siblings (entries_in xs) (parent_of e))) (before k (siblings (entries_in xs) (parent_of x))) ≡ before k (without h (siblings (entries_in xs) (parent_of x)))) [
+        later-closed = elim (cases_Bool (has_handle h (siblings (entries_in xs) (parent_of x)))) as (λ _. cond (is_named (after h (siblings (entries_in xs) (parent_of e))) k) (before h (siblings (entries_in xs) (parent_of e))) (before k (siblings (entries_in xs) (parent_of x))) ≡ before k (without h (siblings (entries_in xs) (parent_of x)))) [
           | inl t ↦
               ap (λ o. cond (is_named (after h (siblings (entries_in xs) o)) k) (before h (siblings (entries_in xs) o)) (before k (siblings (entries_in xs) (parent_of x)))) (sibling-parent h e found (parent_of x) t)
               ∙ sym (before-without h (siblings (entries_in xs) (parent_of x)) (siblings-once (parent_of x)) t k ne)
           | inr u ↦
-              ap (λ b. cond b (before h (siblings (entries_in xs) (parent_of e))) (before k (siblings (entries_in xs) (parent_of x)))) (not_same (is_named (after h (siblings (entries_in xs) (parent_of e))) k) (λ t.
+              ap (λ b. cond b (before h (siblings (entries_in xs) (parent_of e))) (before k (siblings (entries_in xs) (parent_of x)))) (false_from_ne_true (is_named (after h (siblings (entries_in xs) (parent_of e))) k) (λ t.
               let same = sibling-parent k x f (parent_of e) (after-has h k (siblings (entries_in xs) (parent_of e)) t) in
               true≢false (sym t ∙ ap (λ o. is_named o k) (ap (λ o. after h (siblings (entries_in xs) o)) (sym same) ∙ after-absent h (siblings (entries_in xs) (parent_of x)) u))))
               ∙ ap (before k) (sym (without-absent h (siblings (entries_in xs) (parent_of x)) u))
@@ -225,8 +220,5 @@ module _ {D : Type 0} where
             }) (has ∙ ap (links_in (entries_in xs) k) par)
             ∙ (λ i. record { first = first-closed k i; last = last-closed k i; earlier = earlier-closed k x f ne i; later = later-closed k x f ne i })
             ∙ ap (λ ks. links_by ks (without h (siblings (entries_in xs) (parent_of x))) k) (sym (young-closed k g))
-            ∙ ap (λ ks. links_by (young (filter (λ y. not (is_under h y)) (entries_in xs)) k) ks k) (sym (siblings-closed (parent_of x) (λ q e'. sym (child-goes (entries_in xs) tree h e found k x q f e' (turned h k ne)) ∙ g)))
+            ∙ ap (λ ks. links_by (young (filter (λ y. not (is_under h y)) (entries_in xs)) k) ks k) (sym (siblings-closed (parent_of x) (λ q e'. sym (child-goes (entries_in xs) tree h e found k x q f e' (other-turned h k ne)) ∙ g)))
             ∙ ap (links_in (filter (λ y. not (is_under h y)) (entries_in xs)) k) (sym (ap (λ (n : Node D). n.parent) (unlinked-node (links_in (entries_in xs) h (parent_of e)) (parent_of e) k r) ∙ par))
-          where
-            turned : (a b : Handle) → same_handle a b ≡ false → same_handle b a ≡ false
-            turned a b e = not_same (same_handle b a) (λ t. true≢false (sym ((same_handle-Decides a b).1 (sym ((same_handle-Decides b a).0 t))) ∙ e))

@@ -1,8 +1,9 @@
 -- Frames below a root, by the frames that embed them.
-use Rattle.std.proofs.Common.{◌≡◌, Bool, true, false, ◌||◌, List, [], ◌∷◌, None, is_some, refl, ap, ◌∙◌, true≢false}
+use Rattle.std.proofs.Common.{◌≡◌, true, false, ◌||◌, List, [], ◌∷◌, None, is_some, refl, ap, ◌∙◌, true≢false}
 use Rattle.pe_arena.specs.declared.handle.Handle.{Handle}
 use Rattle.pe_frames.specs.Forest.{Entry, same_handle, has_handle, last_of, path, parent_of, is_under}
 use Rattle.pe_frames.proofs.Nodes.{has-push, same_handle-Decides}
+use Rattle.std.proofs.Math.Bool.{or-false, or-true}
 
 no_last : (ks : List Handle) → last_of ks ≡ None → ks ≡ []
 no_last [] q = refl
@@ -15,11 +16,7 @@ module _ {D : Type 0} where
 
   -- a frame that is not the root is below it where its parent is the root or below it
   pub under-parent : (root : Handle) (e a : Entry D) → e.above ≡ path a → same_handle e.handle root ≡ false → is_under root e ≡ is_under root a
-  under-parent root e a q f = has-push root e.handle e.above ∙ ap (λ b. has_handle root e.above || b) f ∙ or_false (has_handle root e.above) ∙ ap (has_handle root) q
-    where
-      or_false : (b : Bool) → (b || false) ≡ b
-      or_false true = refl
-      or_false false = refl
+  under-parent root e a q f = has-push root e.handle e.above ∙ ap (λ b. has_handle root e.above || b) f ∙ or-false (has_handle root e.above) ∙ ap (has_handle root) q
 
   -- a top frame is below itself alone
   pub under-top : (root : Handle) (e : Entry D) → e.above ≡ [] → is_under root e ≡ same_handle e.handle root
@@ -27,8 +24,4 @@ module _ {D : Type 0} where
 
   -- a frame is below itself
   pub under-itself : (e : Entry D) → is_under e.handle e ≡ true
-  under-itself e = has-push e.handle e.handle e.above ∙ ap (λ b. has_handle e.handle e.above || b) ((same_handle-Decides e.handle e.handle).1 refl) ∙ or_true (has_handle e.handle e.above)
-    where
-      or_true : (b : Bool) → (b || true) ≡ true
-      or_true true = refl
-      or_true false = refl
+  under-itself e = has-push e.handle e.handle e.above ∙ ap (λ b. has_handle e.handle e.above || b) ((same_handle-Decides e.handle e.handle).1 refl) ∙ or-true (has_handle e.handle e.above)

@@ -6,10 +6,10 @@ use Rattle.pe_arena.specs.declared.handle.Handle.{Handle}
 use Rattle.pe_frames.specs.Forest.{Entry, same_handle, has_handle, last_of, entry_of, is_under}
 use Rattle.pe_frames.specs.Order.{head_of, after, children, child_handles}
 use Rattle.pe_frames.specs.Kept.{AreOnce}
-use Rattle.pe_frames.proofs.Nodes.{same_handle-Decides}
-use Rattle.pe_frames.proofs.Pages.{not_same}
+use Rattle.pe_frames.proofs.Nodes.{same_handle-Decides, has-append}
+use Rattle.std.proofs.lemmas.Bool.{false_from_ne_true}
 use Rattle.pe_frames.proofs.Tree.{IsTree}
-use Rattle.pe_frames.proofs.TreeOrder.{walk, walks, walk-is, walk-once, walk-zero, walk-suc, has-append}
+use Rattle.pe_frames.proofs.TreeOrder.{walk, walks, walk-is, walk-once, walk-zero, walk-suc}
 use Rattle.pe_frames.proofs.Subtrees.{IsUp, split-below, stands-of}
 
 -- what stands directly behind a handle that stands once
@@ -25,7 +25,7 @@ after-split (x ∷ front) k back once = ap (λ b. cond b (head_of (front ++ k �
     among = has-append k front (k ∷ back) ∙ ap (λ b. has_handle k front || (b || has_handle k back)) ((same_handle-Decides k k).1 refl) ∙ or_true (has_handle k front) (has_handle k back)
 
     other : same_handle x k ≡ false
-    other = not_same (same_handle x k) (λ t. true≢false (sym among ∙ ap (λ j. has_handle j (front ++ k ∷ back)) (sym ((same_handle-Decides x k).0 t)) ∙ once.0))
+    other = false_from_ne_true (same_handle x k) (λ t. true≢false (sym among ∙ ap (λ j. has_handle j (front ++ k ∷ back)) (sym ((same_handle-Decides x k).0 t)) ∙ once.0))
 
 -- what stands behind the last of some that stand in a row
 after-last : (front : List Handle) (d k : Handle) (ks back : List Handle) → AreOnce (front ++ k ∷ (ks ++ back)) → after (unwrap_or (last_of (k ∷ ks)) d) (front ++ k ∷ (ks ++ back)) ≡ head_of back

@@ -1,5 +1,5 @@
 -- The frames within a subtree: the root and those below it.
-use Rattle.std.proofs.Common.{◌≡◌, ◌⊎◌, inl, inr, Bool, true, false, cond, ◌||◌, List, [], ◌∷◌, ◌++◌, length, length-append, Option, None, Some, refl, sym, ap, subst, ◌∙◌, arith, true≢false}
+use Rattle.std.proofs.Common.{◌≡◌, inl, inr, Bool, true, false, cond, ◌||◌, List, [], ◌∷◌, ◌++◌, length, length-append, Option, None, Some, refl, sym, ap, subst, ◌∙◌, arith, true≢false}
 use Rattle.std.specs.Prelude.{filter, not}
 use Rattle.pe_base.specs.declared.limits.TheConstants.{DEPTH_LIMIT}
 use Rattle.pe_arena.specs.declared.handle.Handle.{Handle}
@@ -7,8 +7,8 @@ use Rattle.pe_frames.specs.Forest.{Entry, path, same_handle, has_handle, first_o
 use Rattle.pe_frames.specs.Order.{is_named, is_child, handles_under}
 use Rattle.pe_frames.specs.Links.{young}
 use Rattle.pe_frames.specs.Kept.{Kept, entries_in, AreNodes, AreApart}
-use Rattle.pe_frames.proofs.Nodes.{same_handle-Decides, same_or_other}
-use Rattle.pe_frames.proofs.Pages.{not_same}
+use Rattle.pe_frames.proofs.Nodes.{same_handle-Decides, same_or_other, other-turned}
+use Rattle.std.proofs.lemmas.Bool.{false_from_ne_true, cases_Bool}
 use Rattle.pe_frames.proofs.Below.{entry-handle}
 use Rattle.pe_frames.proofs.Upward.{above-none, under-parent, under-top, under-itself}
 use Rattle.pe_frames.proofs.Tree.{Each, IsTree, IsParent}
@@ -16,13 +16,8 @@ use Rattle.pe_frames.proofs.TreeOrder.{walk-under}
 use Rattle.pe_frames.proofs.Under.{handles-live, handles-all, handles-are, its-own}
 use Rattle.pe_frames.proofs.Cuts.{each-live, filter-agree}
 use Rattle.pe_frames.proofs.Without.{without}
-
-some_same : {A : Type 0} {a b : A} → Some a ≡ Some b → a ≡ b
-some_same e = cc
-
-pub true_or_false : (b : Bool) → (b ≡ true) ⊎ (b ≡ false)
-true_or_false true = inl refl
-true_or_false false = inr refl
+use Rattle.pe_frames.proofs.Pages.{first-push}
+use Rattle.pe_frames.proofs.Lemmas.{some_same}
 
 filter-all : {A : Type 0} (p : A → Bool) (xs : List A) → Each (λ x. p x ≡ true) xs → filter p xs ≡ xs
 filter-all p [] each = refl
@@ -35,13 +30,6 @@ filter-none p (x ∷ xs) each = ap (λ b. cond b (x ∷ filter p xs) (filter p x
 first-path : (ks : List Handle) (k : Handle) (rest : List Handle) (d : Handle) → first_of ((ks ++ k ∷ []) ++ rest) d ≡ first_of ks k
 first-path [] k rest d = refl
 first-path (x ∷ ks) k rest d = refl
-
-first-path_alone : (ks : List Handle) (k d : Handle) → first_of (ks ++ k ∷ []) d ≡ first_of ks k
-first-path_alone [] k d = refl
-first-path_alone (x ∷ ks) k d = refl
-
-turned : (a b : Handle) → same_handle a b ≡ false → same_handle b a ≡ false
-turned a b e = not_same (same_handle b a) (λ t. true≢false (sym ((same_handle-Decides a b).1 (sym ((same_handle-Decides b a).0 t))) ∙ e))
 
 module _ {D : Type 0} where
   -- the children that stay are those of what stays
@@ -74,9 +62,9 @@ module _ {D : Type 0} where
 
     -- the handle of a live frame goes with the subtree where the frame is within it
     pub goes-under : (k : Handle) (x : Entry D) → entry_of es k ≡ Some x → has_handle k (handles_under es h) ≡ is_under h x
-    goes-under k x f = elim (true_or_false (is_under h x)) as (λ _. has_handle k (handles_under es h) ≡ is_under h x) [
+    goes-under k x f = elim (cases_Bool (is_under h x)) as (λ _. has_handle k (handles_under es h) ≡ is_under h x) [
       | inl t ↦ handles-all es tree h k e x found f t ∙ sym t
-      | inr u ↦ not_same (has_handle k (handles_under es h)) (λ t.
+      | inr u ↦ false_from_ne_true (has_handle k (handles_under es h)) (λ t.
           let l = handles-live es tree h k t in
           let same : l.entry ≡ x = some_same (sym l.found ∙ f) in
           true≢false (sym l.under ∙ ap (is_under h) same ∙ u)) ∙ sym u
@@ -99,7 +87,7 @@ module _ {D : Type 0} where
 
     -- the frame that embeds it stays
     pub parent-stays : (p : Handle) → parent_of e ≡ Some p → has_handle p (handles_under es h) ≡ false
-    parent-stays p q = not_same (has_handle p (handles_under es h)) (λ t.
+    parent-stays p q = false_from_ne_true (has_handle p (handles_under es h)) (λ t.
         let a = embedder-of h e p found q in
         let way = by-root p a.entry a.found t in
         let long = ap length a.above in
@@ -124,7 +112,7 @@ module _ {D : Type 0} where
 
     -- and are not the root
     pub child-not-root : (k : Handle) (x : Entry D) → entry_of es k ≡ Some x → parent_of x ≡ Some h → same_handle k h ≡ false
-    child-not-root k x f q = not_same (same_handle k h) (λ t.
+    child-not-root k x f q = false_from_ne_true (same_handle k h) (λ t.
         let kh = (same_handle-Decides k h).0 t in
         let same : x ≡ e = some_same (sym f ∙ ap (entry_of es) kh ∙ found) in
         true≢false (sym root-goes ∙ parent-stays h (ap (λ (y : Entry D). parent_of y) (sym same) ∙ q)))
@@ -137,7 +125,7 @@ module _ {D : Type 0} where
     pub page-goes : (k : Handle) (x : Entry D) → entry_of es k ≡ Some x → has_handle k (handles_under es h) ≡ true → top_of x ≡ top_of e
     page-goes k x f t =
         let way = by-root k x f t in
-        sym (first-path_alone x.above x.handle h) ∙ ap (λ ks. first_of ks h) way.is ∙ first-path e.above e.handle way.rest h
+        sym (first-push x.above x.handle h) ∙ ap (λ ks. first_of ks h) way.is ∙ first-path e.above e.handle way.rest h
 
     module _ (xs : List (Kept D)) (are : AreNodes xs) (apart : AreApart xs) (kept_as : es ≡ entries_in xs) where
       each-child : (P : Handle → Type 0) (q : Handle) → ((x : Entry D) → entry_of es x.handle ≡ Some x → parent_of x ≡ Some q → P x.handle) → Each P (young es q)
@@ -166,10 +154,10 @@ module _ {D : Type 0} where
         children-same q other g = filter-all (λ k. not (has_handle k below)) (young es q)
             (each-child (λ k. not (has_handle k below) ≡ true) q (λ x f par. ap not (elim (same_or_other x.handle h) as (λ _. has_handle x.handle below ≡ false) [
               | inl t ↦ ap (λ j. has_handle j below) ((same_handle-Decides x.handle h).0 t) ∙ once
-              | inr u ↦ goes-below x.handle (turned x.handle h u) ∙ child-goes x.handle x q f par u ∙ sym (goes-below q other) ∙ g
+              | inr u ↦ goes-below x.handle (other-turned x.handle h u) ∙ child-goes x.handle x q f par u ∙ sym (goes-below q other) ∙ g
             ])))
 
         -- and all children of the root are
         pub children-none : filter (λ k. not (has_handle k below)) (young es h) ≡ []
         children-none = filter-none (λ k. not (has_handle k below)) (young es h)
-            (each-child (λ k. not (has_handle k below) ≡ false) h (λ x f par. ap not (goes-below x.handle (turned x.handle h (child-not-root x.handle x f par)) ∙ child-of-root x.handle x f par)))
+            (each-child (λ k. not (has_handle k below) ≡ false) h (λ x f par. ap not (goes-below x.handle (other-turned x.handle h (child-not-root x.handle x f par)) ∙ child-of-root x.handle x f par)))

@@ -1,5 +1,5 @@
 -- A list of handles, and the same list without one of them.
-use Rattle.std.proofs.Common.{◌≡◌, ◌⊎◌, inl, inr, Bool, true, false, cond, ◌||◌, List, [], ◌∷◌, ◌++◌, None, Some, is_none, refl, sym, ap, subst, ◌∙◌, true≢false}
+use Rattle.std.proofs.Common.{◌≡◌, inl, inr, Bool, true, false, cond, ◌||◌, List, [], ◌∷◌, ◌++◌, None, Some, is_none, refl, sym, ap, subst, ◌∙◌, true≢false}
 use Rattle.std.specs.Prelude.{filter, not, unwrap_or}
 use Rattle.std.proofs.lemmas.List.{append-nil}
 use Rattle.pe_arena.specs.declared.handle.Handle.{Handle}
@@ -7,21 +7,9 @@ use Rattle.pe_frames.specs.Forest.{same_handle, has_handle, last_of}
 use Rattle.pe_frames.specs.Order.{is_named, head_of, after}
 use Rattle.pe_frames.specs.Links.{before}
 use Rattle.pe_frames.specs.Kept.{AreOnce}
-use Rattle.pe_frames.proofs.Nodes.{same_handle-Decides, same_or_other}
-use Rattle.pe_frames.proofs.Pages.{not_same}
+use Rattle.pe_frames.proofs.Nodes.{same_handle-Decides, same_or_other, has-append, other-turned}
+use Rattle.std.proofs.lemmas.Bool.{cases_Bool, or_parts}
 use Rattle.pe_frames.proofs.Children.{head-absent, before-absent}
-
-neither : (a b : Bool) → (a || b) ≡ false → (a ≡ false) × (b ≡ false)
-neither true b e = absurd (true≢false e)
-neither false b e = (refl, e)
-
-true_or_false : (b : Bool) → (b ≡ true) ⊎ (b ≡ false)
-true_or_false true = inl refl
-true_or_false false = inr refl
-
-or_true : (b : Bool) → (b || true) ≡ true
-or_true true = refl
-or_true false = refl
 
 -- the handle stands between these
 pub record Parts (h : Handle) (ks : List Handle) : Type 0 where
@@ -38,17 +26,6 @@ parts-of h (k ∷ ks) e = elim (same_or_other k h) as (λ _. Parts h (k ∷ ks))
       record { front = k ∷ p.front; back = p.back; is = ap (λ x. k ∷ x) p.is }
 ]
 
-has-append : (k : Handle) (a b : List Handle) → has_handle k (a ++ b) ≡ (has_handle k a || has_handle k b)
-has-append k [] b = refl
-has-append k (x ∷ a) b = ap (λ t. same_handle x k || t) (has-append k a b) ∙ regroup (same_handle x k) (has_handle k a) (has_handle k b)
-  where
-    regroup : (u v w : Bool) → (u || (v || w)) ≡ ((u || v) || w)
-    regroup true v w = refl
-    regroup false v w = refl
-
-other-turn : (a b : Handle) → same_handle a b ≡ false → same_handle b a ≡ false
-other-turn a b e = not_same (same_handle b a) (λ t. true≢false (sym ((same_handle-Decides a b).1 (sym ((same_handle-Decides b a).0 t))) ∙ e))
-
 same-itself : (h : Handle) → same_handle h h ≡ true
 same-itself h = (same_handle-Decides h h).1 refl
 
@@ -60,20 +37,20 @@ once-back h (a ∷ xs) ys once = once-back h xs ys once.1
 once-front : (h : Handle) (xs ys : List Handle) → AreOnce (xs ++ h ∷ ys) → has_handle h xs ≡ false
 once-front h [] ys once = refl
 once-front h (a ∷ xs) ys once =
-    let parts = neither (has_handle a xs) (has_handle a (h ∷ ys)) (sym (has-append a xs (h ∷ ys)) ∙ once.0) in
-    let other = neither (same_handle h a) (has_handle a ys) parts.1 in
-    ap (λ b. b || has_handle h xs) (other-turn h a other.0) ∙ once-front h xs ys once.1
+    let parts = or_parts (has_handle a xs) (has_handle a (h ∷ ys)) (sym (has-append a xs (h ∷ ys)) ∙ once.0) in
+    let other = or_parts (same_handle h a) (has_handle a ys) parts.1 in
+    ap (λ b. b || has_handle h xs) (other-turned h a other.0) ∙ once-front h xs ys once.1
 
 once-head : (h a : Handle) (xs ys : List Handle) → AreOnce (a ∷ xs ++ h ∷ ys) → has_handle a ys ≡ false
 once-head h a xs ys once =
-    let parts = neither (has_handle a xs) (has_handle a (h ∷ ys)) (sym (has-append a xs (h ∷ ys)) ∙ once.0) in
-    (neither (same_handle h a) (has_handle a ys) parts.1).1
+    let parts = or_parts (has_handle a xs) (has_handle a (h ∷ ys)) (sym (has-append a xs (h ∷ ys)) ∙ once.0) in
+    (or_parts (same_handle h a) (has_handle a ys) parts.1).1
 
 -- without the handle
 pub without-absent : (h : Handle) (ks : List Handle) → has_handle h ks ≡ false → filter (λ k. not (same_handle k h)) ks ≡ ks
 without-absent h [] e = refl
 without-absent h (k ∷ ks) e =
-    let parts = neither (same_handle k h) (has_handle h ks) e in
+    let parts = or_parts (same_handle k h) (has_handle h ks) e in
     ap (λ b. cond (not b) (k ∷ filter (λ x. not (same_handle x h)) ks) (filter (λ x. not (same_handle x h)) ks)) parts.0
     ∙ ap (λ x. k ∷ x) (without-absent h ks parts.1)
 
@@ -82,14 +59,14 @@ filter-part h [] ys once =
     ap (λ b. cond (not b) (h ∷ filter (λ x. not (same_handle x h)) ys) (filter (λ x. not (same_handle x h)) ys)) (same-itself h)
     ∙ without-absent h ys once.0
 filter-part h (a ∷ xs) ys once =
-    ap (λ b. cond (not b) (a ∷ filter (λ x. not (same_handle x h)) (xs ++ h ∷ ys)) (filter (λ x. not (same_handle x h)) (xs ++ h ∷ ys))) (neither (same_handle a h) (has_handle h xs) (once-front h (a ∷ xs) ys once)).0
+    ap (λ b. cond (not b) (a ∷ filter (λ x. not (same_handle x h)) (xs ++ h ∷ ys)) (filter (λ x. not (same_handle x h)) (xs ++ h ∷ ys))) (or_parts (same_handle a h) (has_handle h xs) (once-front h (a ∷ xs) ys once)).0
     ∙ ap (λ x. a ∷ x) (filter-part h xs ys once.1)
 
 -- what stands before and behind it
 after-part : (h : Handle) (xs ys : List Handle) → AreOnce (xs ++ h ∷ ys) → after h (xs ++ h ∷ ys) ≡ head_of ys
 after-part h [] ys once = ap (λ b. cond b (head_of ys) (after h ys)) (same-itself h)
 after-part h (a ∷ xs) ys once =
-    ap (λ b. cond b (head_of (xs ++ h ∷ ys)) (after h (xs ++ h ∷ ys))) (neither (same_handle a h) (has_handle h xs) (once-front h (a ∷ xs) ys once)).0
+    ap (λ b. cond b (head_of (xs ++ h ∷ ys)) (after h (xs ++ h ∷ ys))) (or_parts (same_handle a h) (has_handle h xs) (once-front h (a ∷ xs) ys once)).0
     ∙ after-part h xs ys once.1
 
 before-none : (h : Handle) (ys : List Handle) → has_handle h ys ≡ false → before h (h ∷ ys) ≡ None
@@ -99,7 +76,7 @@ before-part : (h : Handle) (xs ys : List Handle) → AreOnce (xs ++ h ∷ ys) �
 before-part h [] ys once = before-none h ys once.0
 before-part h (a ∷ []) ys once = ap (λ b. cond b (Some a) (before h (h ∷ ys))) (same-itself h)
 before-part h (a ∷ b ∷ xs) ys once =
-    ap (λ t. cond t (Some a) (before h ((b ∷ xs) ++ h ∷ ys))) (neither (same_handle b h) (has_handle h xs) (once-front h (b ∷ xs) ys once.1)).0
+    ap (λ t. cond t (Some a) (before h ((b ∷ xs) ++ h ∷ ys))) (or_parts (same_handle b h) (has_handle h xs) (once-front h (b ∷ xs) ys once.1)).0
     ∙ before-part h (b ∷ xs) ys once.1
 
 -- the ends of the list without it
@@ -117,8 +94,8 @@ last-part h xs (b ∷ ys) = last-append xs b ys ∙ sym (last-append xs h (b ∷
 
 last-not : (k : Handle) (xs : List Handle) → has_handle k xs ≡ false → is_named (last_of xs) k ≡ false
 last-not k [] e = refl
-last-not k (a ∷ []) e = (neither (same_handle a k) false e).0
-last-not k (a ∷ b ∷ xs) e = last-not k (b ∷ xs) (neither (same_handle a k) (has_handle k (b ∷ xs)) e).1
+last-not k (a ∷ []) e = (or_parts (same_handle a k) false e).0
+last-not k (a ∷ b ∷ xs) e = last-not k (b ∷ xs) (or_parts (same_handle a k) (has_handle k (b ∷ xs)) e).1
 
 -- the neighbours of another in the list without it
 after-other : (h k : Handle) (xs ys : List Handle) → AreOnce (xs ++ h ∷ ys) → same_handle h k ≡ false → after k (xs ++ ys) ≡ cond (is_named (last_of xs) k) (head_of ys) (after k (xs ++ h ∷ ys))
@@ -130,7 +107,7 @@ after-other h k (a ∷ []) ys once ne = by_test (same_handle a k)
     by_test false = sym (ap (λ b. cond b (head_of ys) (after k ys)) ne)
 after-other h k (a ∷ b ∷ xs) ys once ne = elim (same_or_other a k) as (λ _. cond (same_handle a k) (Some b) (after k ((b ∷ xs) ++ ys)) ≡ cond (is_named (last_of (b ∷ xs)) k) (head_of ys) (cond (same_handle a k) (Some b) (after k ((b ∷ xs) ++ h ∷ ys)))) [
   | inl t ↦
-      let absent = (neither (has_handle a (b ∷ xs)) (has_handle a (h ∷ ys)) (sym (has-append a (b ∷ xs) (h ∷ ys)) ∙ once.0)).0 in
+      let absent = (or_parts (has_handle a (b ∷ xs)) (has_handle a (h ∷ ys)) (sym (has-append a (b ∷ xs) (h ∷ ys)) ∙ once.0)).0 in
       let none = last-not k (b ∷ xs) (ap (λ x. has_handle x (b ∷ xs)) (sym ((same_handle-Decides a k).0 t)) ∙ absent) in
       ap (λ c. cond c (Some b) (after k ((b ∷ xs) ++ ys))) t
       ∙ sym (ap (λ c. cond c (Some b) (after k ((b ∷ xs) ++ h ∷ ys))) t)
@@ -148,7 +125,7 @@ head-first k (b ∷ ys) once t =
     ap (λ x. before x (b ∷ ys)) (sym bk) ∙ before-none b ys once.0
 
 before-other : (h k : Handle) (xs ys : List Handle) → AreOnce (xs ++ h ∷ ys) → same_handle h k ≡ false → before k (xs ++ ys) ≡ cond (is_named (head_of ys) k) (last_of xs) (before k (xs ++ h ∷ ys))
-before-other h k [] ys once ne = elim (true_or_false (is_named (head_of ys) k)) as (λ _. before k ys ≡ cond (is_named (head_of ys) k) None (cond (is_named (head_of ys) k) (Some h) (before k ys))) [
+before-other h k [] ys once ne = elim (cases_Bool (is_named (head_of ys) k)) as (λ _. before k ys ≡ cond (is_named (head_of ys) k) None (cond (is_named (head_of ys) k) (Some h) (before k ys))) [
   | inl t ↦ head-first k ys once.1 t ∙ sym (ap (λ b. cond b None (cond (is_named (head_of ys) k) (Some h) (before k ys))) t)
   | inr f ↦ sym (ap (λ b. cond b None (cond b (Some h) (before k ys))) f)
 ]

@@ -5,8 +5,7 @@ use Rattle.std.specs.Option.{option_map}
 use Rattle.std.proofs.Math.ListN.{get_or-map}
 use Rattle.std.proofs.lemmas.List.{length-map}
 use Rattle.pe_arena.specs.declared.handle.Handle.{Handle}
-use Rattle.pe_arena.specs.Slots.{Slot, Slots, live, mark, with_value}
-use Rattle.pe_arena.proofs.Live.{write-updates}
+use Rattle.pe_arena.specs.Slots.{Slot, Slots, live, mark, with_value, Updates}
 use Rattle.pe_frames.specs.declared.row.Row.{Row}
 use Rattle.pe_frames.specs.Forest.{same_handle}
 use Rattle.pe_frames.specs.Links.{SameMarks, Rewrites, at}
@@ -69,8 +68,8 @@ module _ {D : Type 0} where
   }
 
   -- one row was written
-  pub Rewrites-one : (s t : Slots (Row D)) (h : Handle) (f : Row D → Row D) → IsSome (live s h) → IfSome (live s h) (λ r. t ≡ with_value s h.slot (f r)) → Rewrites s t (at (Some h) f)
-  Rewrites-one s t h f some written = by_row (live s h) refl some written
+  pub Rewrites-one : (s t : Slots (Row D)) (h : Handle) (f : Row D → Row D) → IsSome (live s h) → ((r : Row D) → Updates s (with_value s h.slot r) h (Some r)) → IfSome (live s h) (λ r. t ≡ with_value s h.slot (f r)) → Rewrites s t (at (Some h) f)
+  Rewrites-one s t h f some alone written = by_row (live s h) refl some written
     where
       by_row : (o : Option (Row D)) → live s h ≡ o → IsSome o → IfSome o (λ r. t ≡ with_value s h.slot (f r)) → Rewrites s t (at (Some h) f)
       by_row None q p w = absurd (true≢false (sym p))
@@ -78,7 +77,7 @@ module _ {D : Type 0} where
         where
           rows : (k : Handle) → live (with_value s h.slot (f r)) k ≡ option_map (at (Some h) f k) (live s k)
           rows k =
-              let up = write-updates s h (f r) some in
+              let up = alone (f r) in
               elim (same_or_other h k) as (λ _. live (with_value s h.slot (f r)) k ≡ option_map (at (Some h) f k) (live s k)) [
                 | inl e ↦
                     let hk = (same_handle-Decides h k).0 e in
@@ -104,5 +103,5 @@ module _ {D : Type 0} where
   still-live_if a b f x (Some k) p = still-live a b f x k p
 
   -- the row that is named was written
-  pub Rewrites-some : (s t : Slots (Row D)) (o : Option Handle) (h : Handle) (f : Row D → Row D) → o ≡ Some h → IfSome o (λ k. IsSome (live s k)) → IfSome (live s h) (λ r. t ≡ with_value s h.slot (f r)) → Rewrites s t (at o f)
-  Rewrites-some s t o h f e some written = subst (λ x. Rewrites s t (at x f)) (sym e) (Rewrites-one s t h f (if_some (λ k. IsSome (live s k)) o h e some) written)
+  pub Rewrites-some : (s t : Slots (Row D)) (o : Option Handle) (h : Handle) (f : Row D → Row D) → o ≡ Some h → IfSome o (λ k. IsSome (live s k)) → ((r : Row D) → Updates s (with_value s h.slot r) h (Some r)) → IfSome (live s h) (λ r. t ≡ with_value s h.slot (f r)) → Rewrites s t (at o f)
+  Rewrites-some s t o h f e some alone written = subst (λ x. Rewrites s t (at x f)) (sym e) (Rewrites-one s t h f (if_some (λ k. IsSome (live s k)) o h e some) alone written)

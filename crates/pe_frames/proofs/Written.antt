@@ -1,18 +1,19 @@
 -- The list of frames, through a write of a document.
-use Rattle.std.proofs.Common.{◌≡◌, inl, inr, ℕ, Bool, true, false, cond, List, [], ◌∷◌, map, length, length-set, Option, None, Some, IsSome, is_some, refl, sym, ap, subst, ◌∙◌, arith, true≢false}
+use Rattle.std.proofs.Common.{◌≡◌, inl, inr, ℕ, ◌+◌, Bool, true, false, cond, List, [], ◌∷◌, map, length, length-set, Option, None, Some, IsSome, is_some, refl, sym, ap, subst, ◌∙◌, arith, true≢false}
 use Rattle.std.specs.Prelude.{filter, unwrap_or}
 use Rattle.std.specs.Option.{option_map}
+use Rattle.std.proofs.lemmas.List.{length-map}
 use Rattle.pe_arena.specs.declared.handle.Handle.{Handle}
 use Rattle.pe_arena.specs.Slots.{Slot, Slots, live, mark, with_value, Updates}
-use Rattle.pe_arena.proofs.Live.{mark-with_value, write-updates}
 use Rattle.pe_frames.specs.declared.row.Row.{Row}
 use Rattle.pe_frames.specs.declared.node.Node.{Node}
 use Rattle.pe_frames.specs.Forest.{Entry, path, same_handle, entry_of, node_in, top_of, is_top, page_size, page_count, redone, with_doc}
 use Rattle.pe_frames.specs.Order.{is_child}
-use Rattle.pe_frames.specs.Kept.{above_in, Kept, joined, kept, shown, node_at, entry_in, entries_in, AreNodes, AreApart, forest_in, IsForest}
+use Rattle.pe_frames.specs.Kept.{above_in, Kept, joined, kept, shown, node_at, entry_in, entries_in, AreNodes, AreApart, forest_in, IsForest, IsSwept}
 use Rattle.pe_frames.specs.Links.{links_by, young, links_in}
-use Rattle.pe_frames.proofs.Writes.{map-set_same}
+use Rattle.pe_frames.proofs.Writes.{map-set_same, mark-kept, SameMarks-write}
 use Rattle.pe_frames.proofs.Nodes.{same_handle-Decides, same_or_other}
+use Rattle.pe_frames.proofs.Lemmas.{some_same}
 
 module _ {D : Type 0} (h : Handle) (w : D) where
   -- the kept frame with this document, if it is the named one
@@ -99,12 +100,12 @@ module _ {D : Type 0} (h : Handle) (w : D) where
   links-redone es k (Some p) = ap (λ ks. links_by ks (young (map (redone h w) es) p) k) (young-redone es k) ∙ ap (λ ks. links_by (young es k) ks k) (young-redone es p)
 
   -- the row of the named frame was written
-  module _ (s : Slots (Row D)) (r : Row D) (found : live s h ≡ Some r) where
+  module _ (s : Slots (Row D)) (r : Row D) (found : live s h ≡ Some r) (alone : (x : Row D) → Updates s (with_value s h.slot x) h (Some x)) where
     after : Row D
     after = record r { node = record r.node { doc = w } }
 
     up : Updates s (with_value s h.slot (record r { node = record r.node { doc = w } })) h (Some (record r { node = record r.node { doc = w } }))
-    up = write-updates s h (record r { node = record r.node { doc = w } }) (ap is_some found)
+    up = alone (record r { node = record r.node { doc = w } })
 
     shown-redo : (k : Handle) → shown (with_value s h.slot (record r { node = record r.node { doc = w } })) k ≡ option_map (renode k) (shown s k)
     shown-redo k = elim (same_or_other k h) as (λ _. shown (with_value s h.slot (record r { node = record r.node { doc = w } })) k ≡ option_map (renode k) (shown s k)) [
@@ -135,22 +136,19 @@ module _ {D : Type 0} (h : Handle) (w : D) where
         ap (λ ys. kept (with_value s h.slot (record r { node = record r.node { doc = w } })) hs ys) (ap (λ o. joined k o (map redo xs)) (shown-redo k) ∙ joined-redo k (shown s k) xs)
         ∙ kept-redo hs (joined k (shown s k) xs)
 
-    same_some : {A : Type 0} {a b : A} → Some a ≡ Some b → a ≡ b
-    same_some e = cc
-
     -- every other row is as it was, and this one but for the document
     row-redo : (k : Handle) (x : Row D) → live (with_value s h.slot (record r { node = record r.node { doc = w } })) k ≡ Some x → (y : Row D) × (live s k ≡ Some y) × (x.size ≡ y.size) × (x.node.parent ≡ y.node.parent) × (x.node.depth ≡ y.node.depth) × (x.links ≡ y.links)
     row-redo k x e = elim (same_or_other k h) as (λ _. (y : Row D) × (live s k ≡ Some y) × (x.size ≡ y.size) × (x.node.parent ≡ y.node.parent) × (x.node.depth ≡ y.node.depth) × (x.links ≡ y.links)) [
       | inl q ↦
           let kh = (same_handle-Decides k h).0 q in
-          let rx : x ≡ record r { node = record r.node { doc = w } } = same_some (sym e ∙ ap (live (with_value s h.slot (record r { node = record r.node { doc = w } }))) kh ∙ up.changed) in
+          let rx : x ≡ record r { node = record r.node { doc = w } } = some_same (sym e ∙ ap (live (with_value s h.slot (record r { node = record r.node { doc = w } }))) kh ∙ up.changed) in
           (r, ap (live s) kh ∙ found, ap (λ z. z.size) rx, ap (λ z. z.node.parent) rx, ap (λ z. z.node.depth) rx, ap (λ z. z.links) rx)
       | inr q ↦ (x, sym (up.others k (λ f. true≢false (sym ((same_handle-Decides k h).1 f) ∙ q))) ∙ e, refl, refl, refl, refl)
     ]
 
     shown_row : (o : Option (Row D)) (n : Node D) → option_map (λ y. y.node) o ≡ Some n → (x : Row D) × (o ≡ Some x) × (x.node ≡ n)
     shown_row None n e = absurd cc
-    shown_row (Some x) n e = (x, refl, same_some e)
+    shown_row (Some x) n e = (x, refl, some_same e)
 
     still_shown : (o : Option (Node D)) (k : Handle) → IsSome (option_map (renode k) o) → IsSome o
     still_shown None k p = p
@@ -160,10 +158,17 @@ module _ {D : Type 0} (h : Handle) (w : D) where
       entries-written : entries_in (kept (with_value s h.slot (record r { node = record r.node { doc = w } })) order []) ≡ map (redone h w) (entries_in (kept s order []))
       entries-written = ap entries_in (kept-redo order []) ∙ entries-redo (kept s order [])
 
+      -- as many frames are kept
+      pub length-written : length (kept (with_value s h.slot (record r { node = record r.node { doc = w } })) order []) ≡ length (kept s order [])
+      length-written = ap length (kept-redo order []) ∙ length-map (kept s order []) redo
+
+      pub IsSwept-written : (dead : ℕ) → IsSwept s order dead → IsSwept (with_value s h.slot (record r { node = record r.node { doc = w } })) order dead
+      IsSwept-written dead swept = record { counted = swept.counted ∙ ap (λ n. n + dead) (sym length-written); half = swept.half }
+
       pub IsForest-written : IsForest (with_value s h.slot (record r { node = record r.node { doc = w } })) order pages
       IsForest-written = record {
         listed = λ k p. is.listed k (still_shown (shown s k) k (subst IsSome (shown-redo k) p));
-        given = λ k e. (let a = is.given k e in let b = mark-with_value s h (record r { node = record r.node { doc = w } }) (ap is_some found) k.slot in omega arith);
+        given = λ k e. (let a = is.given k e in let b = mark-kept s (with_value s h.slot (record r { node = record r.node { doc = w } })) (SameMarks-write s h.slot (record r { node = record r.node { doc = w } })) k.slot in omega arith);
         nodes = subst AreNodes (sym (kept-redo order [])) (nodes-redo (kept s order []) is.nodes);
         apart = subst AreApart (sym (kept-redo order [])) (apart-redo (kept s order []) is.apart);
         sized = λ k x e p.

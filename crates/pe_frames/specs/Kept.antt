@@ -1,5 +1,5 @@
 -- How the tree keeps its frames.
-use Rattle.std.specs.Prelude.{◌≡◌, ℕ, ◌-◌, ◌<◌, ◌≤◌, ◌^◌, true, cond, List, [], ◌∷◌, map, length, Option, Some, None, IsSome, unwrap_or, ⊤}
+use Rattle.std.specs.Prelude.{◌≡◌, ℕ, ◌+◌, ◌-◌, ◌<◌, ◌≤◌, ◌^◌, true, cond, List, [], ◌∷◌, map, length, Option, Some, None, IsSome, unwrap_or, ⊤}
 use Rattle.std.specs.Option.{option_map, option_and_then}
 use Rattle.pe_arena.specs.declared.handle.Handle.{Handle}
 use Rattle.pe_arena.specs.Slots.{Slots, live, mark}
@@ -95,3 +95,13 @@ module _ {D : Type 0} where
     pub counted : length s.slots ≤ s.made
     pub wide : s.limit ≡ 2 ^ 32 - 1
     pub first : s.first ≡ 0
+
+  -- each listed handle is of a live frame or dead, and no more than half of them are dead
+  pub record IsSwept (s : Slots (Row D)) (order : List Handle) (dead : ℕ) : Type 0 where
+    pub counted : length order ≡ length (kept s order []) + dead
+    pub half : dead + dead ≤ length order
+
+  -- the frames are as the rows and the list of handles say, and the list is swept of most dead handles
+  pub record IsKept (s : Slots (Row D)) (order : List Handle) (pages dead : ℕ) : Type 0 where
+    pub forest : IsForest s order pages
+    pub swept : IsSwept s order dead

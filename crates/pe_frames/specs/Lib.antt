@@ -3,3 +3,4 @@ pub mod Kept
 pub mod Lends
 pub mod Links
 pub mod Order
+pub mod Walk

@@ -48,11 +48,11 @@ impl<D: Numbered> Model for Frames<D> {
 
     ghost coded = { forest_code D.code };
 
-    ghost use Rattle.pe_frames.specs.Kept.{forest_in, IsForest};
+    ghost use Rattle.pe_frames.specs.Kept.{forest_in, IsKept};
 
     ghost view = { λ f. forest_in f.rows f.order.items };
 
-    ghost invariant = { λ f. IsForest f.rows f.order.items f.pages };
+    ghost invariant = { λ f. IsKept f.rows f.order.items f.pages f.dead };
 }
 
 impl<D: Numbered> Frames<D> {
@@ -261,7 +261,8 @@ impl<D: Numbered> Frames<D> {
 
     /// How many pages there are: the live top frames.
     pub fn pages(&self) -> u32
-        ensures { result ≡ page_count self.now.entries }
+        ensures value { result ≡ page_count self.now.entries }
+        ensures within { result ≤ PAGE_LIMIT }
     {
         self.pages
     }
@@ -346,7 +347,8 @@ impl<D: Numbered> Frames<D> {
 
     /// How many frames the page of the named frame has; None where that is not live.
     pub fn page_size(&self, h: Handle) -> Option<u32>
-        ensures { result ≡ option_map (λ e. page_size self.now.entries (top_of e)) (entry_of self.now.entries h) }
+        ensures value { result ≡ option_map (λ e. page_size self.now.entries (top_of e)) (entry_of self.now.entries h) }
+        ensures within { IfSome result (λ n. n ≤ FRAME_LIMIT) }
     {
         let top = self.top(h)?;
         Some(self.rows.get(top)?.size)

@@ -1,8 +1,8 @@
 //! Removal of rows.
-ghost use Rattle.std.specs.Prelude.{◌≡◌, ◌+◌, ◌<◌, ◌≤◌, ◌↔◌, ◌++◌, [], ◌∷◌, IsSome, IfSome, IsTrue, length, vec_len, vec_capacity};
-ghost use Rattle.pe_arena.specs.Slots.{live, with_value};
+ghost use Rattle.std.specs.Prelude.{◌≡◌, Some, ◌+◌, ◌<◌, ◌≤◌, ◌↔◌, ◌++◌, [], ◌∷◌, IsSome, IfSome, IsTrue, length, vec_len, vec_capacity};
+ghost use Rattle.pe_arena.specs.Slots.{live, with_value, Updates};
 ghost use Rattle.pe_frames.specs.Links.{Rewrites, Removes, at, docs_at, unlinked, smaller, renewed};
-ghost use Rattle.pe_frames.specs.Kept.{Sweeps, AreOnce};
+ghost use Rattle.pe_frames.specs.Kept.{kept, AreOnce, IsSwept, Sweeps};
 
 use crate::row::{Links, Row, set_earlier, set_first, set_last, set_later, unless};
 use pe_arena::{Arena, Handle};
@@ -37,6 +37,7 @@ pub(crate) fn take_all<D: Drop>(rows: &mut Arena<Row<D>>, handles: &[Handle], do
 pub(crate) fn renew<D>(rows: &mut Arena<Row<D>>, h: Handle, doc: D) -> D
     requires { IsSome (live rows.old h) }
     ensures rows { IfSome (live rows.old h) (λ r. rows.new ≡ with_value rows.old h.slot (renewed doc r)) }
+    ensures alone { (r : Row D) → Updates rows.old (with_value rows.old h.slot r) h (Some r) }
     ensures old { IfSome (live rows.old h) (λ r. result ≡ r.node.doc) }
 {
     let row = rows.get_mut(h).unwrap();
@@ -47,7 +48,8 @@ pub(crate) fn renew<D>(rows: &mut Arena<Row<D>>, h: Handle, doc: D) -> D
 fn shrink_at<D>(rows: &mut Arena<Row<D>>, top: Handle, count: u32)
     requires live { IsSome (live rows.old top) }
     requires size { IfSome (live rows.old top) (λ r. count ≤ r.size) }
-    ensures { IfSome (live rows.old top) (λ r. rows.new ≡ with_value rows.old top.slot (smaller count r)) }
+    ensures written { IfSome (live rows.old top) (λ r. rows.new ≡ with_value rows.old top.slot (smaller count r)) }
+    ensures alone { (r : Row D) → Updates rows.old (with_value rows.old top.slot r) top (Some r) }
 {
     let row = rows.get_mut(top).unwrap();
     row.size -= count;
@@ -83,11 +85,14 @@ fn is_live<D>(rows: &Arena<Row<D>>, h: Handle) -> bool
     rows.get(h).is_some()
 }
 
-// Drops the dead handles of the list, once they are the greater half of it: `dead` counts them.
+// Counts so many more dead handles of the list, and drops all dead ones once they are more than half
+// of it.
 pub(crate) fn sweep<D>(rows: &Arena<Row<D>>, order: &mut Vec<Handle>, dead: &mut usize, more: usize)
-    ensures { Sweeps rows.now order.old.items order.new.items }
+    requires { length order.old.items ≡ length (kept rows.now order.old.items []) + (dead.old + more) }
+    ensures sweeps { Sweeps rows.now order.old.items order.new.items }
+    ensures swept { IsSwept rows.now order.new.items dead.new }
 {
-    *dead = dead.saturating_add(more);
+    *dead += more;
     if *dead > order.len() / 2 {
         order.retain(|h| is_live(rows, *h));
         *dead = 0;

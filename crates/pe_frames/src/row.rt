@@ -1,6 +1,6 @@
 //! The rows of frames.
 ghost use Rattle.std.specs.Prelude.{◌≡◌, ◌↔◌, ◌+◌, ◌-◌, ◌<◌, ◌≤◌, ◌^◌, IsSome, IsTrue, IfSome, length, IfOk, OnErr, Some, None, if◌then◌else◌, is_none};
-ghost use Rattle.pe_arena.specs.Slots.{live, mark, holding, with_value, IsNext, Updates};
+ghost use Rattle.pe_arena.specs.Slots.{live, mark, holding, with_value, IsGiven, Updates};
 ghost use Rattle.pe_frames.specs.Links.{Rewrites, at, with_first, with_last, with_earlier, with_later, linked};
 
 use crate::node::Node;
@@ -85,7 +85,8 @@ pub(crate) fn put_row<D: Drop>(rows: &mut Arena<Row<D>>, row: Row<D>) -> Result<
     requires made { rows.old.made < 2 ^ 32 - 1 }
     requires slots { length rows.old.slots ≤ rows.old.made }
     requires limit { rows.old.limit ≡ 2 ^ 32 - 1 }
-    ensures slot { IfOk result (λ h. IsNext rows.old h.slot) }
+    ensures new { IfOk result (λ h. live rows.old h ≡ None) }
+    ensures given { IfOk result (λ h. IsGiven rows.old rows.new h) }
     ensures generation { IfOk result (λ h. h.generation ≡ mark rows.old h.slot) }
     ensures slots { IfOk result (λ h. rows.new ≡ holding rows.old h.slot row) }
     ensures updates { IfOk result (λ h. Updates rows.old rows.new h (Some row)) }
@@ -101,7 +102,8 @@ pub(crate) fn put_row<D: Drop>(rows: &mut Arena<Row<D>>, row: Row<D>) -> Result<
 // Says of the frame that it is the top frame of its page.
 pub(crate) fn name_top<D>(rows: &mut Arena<Row<D>>, h: Handle)
     requires { IsSome (live rows.old h) }
-    ensures { IfSome (live rows.old h) (λ r. rows.new ≡ with_value rows.old h.slot (record r { node = record r.node { top = h } })) }
+    ensures written { IfSome (live rows.old h) (λ r. rows.new ≡ with_value rows.old h.slot (record r { node = record r.node { top = h } })) }
+    ensures alone { (r : Row D) → Updates rows.old (with_value rows.old h.slot r) h (Some r) }
 {
     let row = rows.get_mut(h).unwrap();
     row.node.top = h;
@@ -111,7 +113,8 @@ pub(crate) fn name_top<D>(rows: &mut Arena<Row<D>>, h: Handle)
 pub(crate) fn grow_page<D>(rows: &mut Arena<Row<D>>, top: Handle)
     requires live { IsSome (live rows.old top) }
     requires room { IfSome (live rows.old top) (λ r. r.size ≤ 255) }
-    ensures { IfSome (live rows.old top) (λ r. rows.new ≡ with_value rows.old top.slot (record r { size = r.size + 1 })) }
+    ensures written { IfSome (live rows.old top) (λ r. rows.new ≡ with_value rows.old top.slot (record r { size = r.size + 1 })) }
+    ensures alone { (r : Row D) → Updates rows.old (with_value rows.old top.slot r) top (Some r) }
 {
     let row = rows.get_mut(top).unwrap();
     row.size += 1;
@@ -119,7 +122,8 @@ pub(crate) fn grow_page<D>(rows: &mut Arena<Row<D>>, top: Handle)
 
 fn first_at<D>(rows: &mut Arena<Row<D>>, h: Handle, first: Option<Handle>)
     requires { IsSome (live rows.old h) }
-    ensures { IfSome (live rows.old h) (λ r. rows.new ≡ with_value rows.old h.slot (with_first first r)) }
+    ensures written { IfSome (live rows.old h) (λ r. rows.new ≡ with_value rows.old h.slot (with_first first r)) }
+    ensures alone { (r : Row D) → Updates rows.old (with_value rows.old h.slot r) h (Some r) }
 {
     let row = rows.get_mut(h).unwrap();
     row.links.first = first;
@@ -127,7 +131,8 @@ fn first_at<D>(rows: &mut Arena<Row<D>>, h: Handle, first: Option<Handle>)
 
 fn last_at<D>(rows: &mut Arena<Row<D>>, h: Handle, last: Option<Handle>)
     requires { IsSome (live rows.old h) }
-    ensures { IfSome (live rows.old h) (λ r. rows.new ≡ with_value rows.old h.slot (with_last last r)) }
+    ensures written { IfSome (live rows.old h) (λ r. rows.new ≡ with_value rows.old h.slot (with_last last r)) }
+    ensures alone { (r : Row D) → Updates rows.old (with_value rows.old h.slot r) h (Some r) }
 {
     let row = rows.get_mut(h).unwrap();
     row.links.last = last;
@@ -135,7 +140,8 @@ fn last_at<D>(rows: &mut Arena<Row<D>>, h: Handle, last: Option<Handle>)
 
 fn earlier_at<D>(rows: &mut Arena<Row<D>>, h: Handle, earlier: Option<Handle>)
     requires { IsSome (live rows.old h) }
-    ensures { IfSome (live rows.old h) (λ r. rows.new ≡ with_value rows.old h.slot (with_earlier earlier r)) }
+    ensures written { IfSome (live rows.old h) (λ r. rows.new ≡ with_value rows.old h.slot (with_earlier earlier r)) }
+    ensures alone { (r : Row D) → Updates rows.old (with_value rows.old h.slot r) h (Some r) }
 {
     let row = rows.get_mut(h).unwrap();
     row.links.earlier = earlier;
@@ -143,7 +149,8 @@ fn earlier_at<D>(rows: &mut Arena<Row<D>>, h: Handle, earlier: Option<Handle>)
 
 fn later_at<D>(rows: &mut Arena<Row<D>>, h: Handle, later: Option<Handle>)
     requires { IsSome (live rows.old h) }
-    ensures { IfSome (live rows.old h) (λ r. rows.new ≡ with_value rows.old h.slot (with_later later r)) }
+    ensures written { IfSome (live rows.old h) (λ r. rows.new ≡ with_value rows.old h.slot (with_later later r)) }
+    ensures alone { (r : Row D) → Updates rows.old (with_value rows.old h.slot r) h (Some r) }
 {
     let row = rows.get_mut(h).unwrap();
     row.links.later = later;

@@ -3,7 +3,7 @@ use Rattle.std.proofs.lemmas.Bool.Decides.{nat_tests}
 use Rattle.std.proofs.lemmas.Result.{IfOk-weaker}
 use Rattle.pe_arena.specs.Slots.{HasFree, HasNoFree, IsNext}
 use Rattle.pe_arena.proofs.Lists.{empty_list}
-use Rattle.pe_arena.proofs.Live.{insert-updates, insert-dead}
+use Rattle.pe_arena.proofs.Live.{insert-new, insert-given, insert-updates, insert-dead}
 use Rattle.pe_arena.proofs.Seen.{HasFree-seen, HasNoFree-seen}
 use Rattle.pe_arena.proofs.arena.Arena.insert.Goals as goal
 
@@ -52,3 +52,20 @@ returns-else-is_empty-clause-dead g c =
     let is = c.insert_in_free_slot.ensures in
     let next = IfOk-weaker c.insert_in_free_slot.result _ (λ h. IsNext c.args.self.now h.slot) (λ h e. inl e) is.slot in
     insert-dead c.insert_in_free_slot.result c.args.self.now c.insert_in_free_slot.new.self c.args.value next is.generation is.slots is.err
+
+pub returns-then-is_empty-clause-new : goal.returns-then-is_empty-clause-new
+returns-then-is_empty-clause-new g c = insert-new c.insert_in_new_slot.result c.args.self.now c.insert_in_new_slot.ensures.generation
+
+pub returns-else-is_empty-clause-new : goal.returns-else-is_empty-clause-new
+returns-else-is_empty-clause-new g c = insert-new c.insert_in_free_slot.result c.args.self.now c.insert_in_free_slot.ensures.generation
+
+pub returns-then-is_empty-clause-given : goal.returns-then-is_empty-clause-given
+returns-then-is_empty-clause-given g c =
+    let is = c.insert_in_new_slot.ensures in
+    insert-given c.insert_in_new_slot.result c.args.self.now c.insert_in_new_slot.new.self c.args.value is.slot is.generation is.slots
+
+pub returns-else-is_empty-clause-given : goal.returns-else-is_empty-clause-given
+returns-else-is_empty-clause-given g c =
+    let is = c.insert_in_free_slot.ensures in
+    let next = IfOk-weaker c.insert_in_free_slot.result _ (λ h. IsNext c.args.self.now h.slot) (λ h e. inl e) is.slot in
+    insert-given c.insert_in_free_slot.result c.args.self.now c.insert_in_free_slot.new.self c.args.value next is.generation is.slots

@@ -10,7 +10,7 @@ use Rattle.pe_frames.proofs.frames.Frames.child_behind.Goals as goal
 pub returns-in_err-here : goal.returns-in_err-here
 returns-in_err-here g c =
     let xs = kept c.self.inside.rows c.self.inside.order.items [] in
-    let is = c.self.invariant in
+    let is = c.self.invariant.forest in
     let k = c.args.child in
     let p = c.args.parent in
     let value = subst (λ (f : Forest _). c.standing.result ≡ option_map (standing_in f.entries k) (entry_of f.entries k)) (sym c.self.view_is) c.standing.ensures.value in
@@ -20,7 +20,7 @@ returns-in_err-here g c =
 pub returns-then-not-names : goal.returns-then-not-names
 returns-then-not-names g c =
     let xs = kept c.self.inside.rows c.self.inside.order.items [] in
-    let is = c.self.invariant in
+    let is = c.self.invariant.forest in
     let k = c.args.child in
     let p = c.args.parent in
     let value = subst (λ (f : Forest _). c.standing.result ≡ option_map (standing_in f.entries k) (entry_of f.entries k)) (sym c.self.view_is) c.standing.ensures.value in
@@ -30,7 +30,7 @@ returns-then-not-names g c =
 pub returns : goal.returns
 returns g c =
     let xs = kept c.self.inside.rows c.self.inside.order.items [] in
-    let is = c.self.invariant in
+    let is = c.self.invariant.forest in
     let k = c.args.child in
     let p = c.args.parent in
     let value = subst (λ (f : Forest _). c.standing.result ≡ option_map (standing_in f.entries k) (entry_of f.entries k)) (sym c.self.view_is) c.standing.ensures.value in

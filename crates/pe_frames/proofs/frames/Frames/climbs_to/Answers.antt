@@ -17,13 +17,13 @@ returns-in_default g c =
 
 pub loop-root-smaller : goal.loop-root-smaller
 loop-root-smaller g c =
-    let tree = tree-seen c.self.inside.rows c.self.inside.order.items c.self.inside.pages c.self.invariant c.args.self.now c.self.view_is in
+    let tree = tree-seen c.self.inside.rows c.self.inside.order.items c.self.inside.pages c.self.invariant.forest c.args.self.now c.self.view_is in
     parent-shorter c.args.self.now.entries tree c.loop-root.up c.in-Some.parent (sym c.parent.ensures ∙ c.in-Some.is)
 
 pub loop-root-preserved : goal.loop-root-preserved
 loop-root-preserved g c =
     let es = c.args.self.now.entries in
-    let tree = tree-seen c.self.inside.rows c.self.inside.order.items c.self.inside.pages c.self.invariant c.args.self.now c.self.view_is in
+    let tree = tree-seen c.self.inside.rows c.self.inside.order.items c.self.inside.pages c.self.invariant.forest c.args.self.now c.self.view_is in
     let up = c.loop-root.up in
     let parent = sym c.parent.ensures ∙ c.in-Some.is in
     let other = differ c.ne.result (same_handle up c.args.root) c.ne.ensures c.loop-root-test.true in

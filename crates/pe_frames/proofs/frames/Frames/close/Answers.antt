@@ -3,7 +3,7 @@ use Rattle.pe_frames.specs.Forest.{Forest, StayDead, entry_of}
 use Rattle.pe_frames.specs.Order.{closed, docs_under}
 use Rattle.pe_frames.specs.Links.{docs_at}
 use Rattle.pe_frames.specs.Kept.{forest_in}
-use Rattle.pe_frames.proofs.Closing.{leaves-at, once-left, few-left, pages-left, earlier-left, later-left, parent-left, docs-left, page-left_lives, page-left_large, IsForest-left, entries-left, StayDead-left, IsDead-left}
+use Rattle.pe_frames.proofs.Closing.{leaves-at, once-left, few-left, pages-left, earlier-left, later-left, parent-left, docs-left, page-left_lives, page-left_large, IsForest-left, dead-left, entries-left, StayDead-left, IsDead-left}
 use Rattle.pe_frames.proofs.frames.Frames.close.Goals as goal
 
 pub take_all-requires-clause-once : goal.take_all-requires-clause-once
@@ -11,7 +11,7 @@ take_all-requires-clause-once g c =
     let s = c.self.inside.rows in
     let order = c.self.inside.order.items in
     let pages = c.self.inside.pages in
-    let is = c.self.invariant in
+    let is = c.self.invariant.forest in
     let h = c.args.h in
     let here = c.in-Some.here in
     let below = c.deref.result.now in
@@ -23,7 +23,7 @@ unlink-requires-clause-earlier g c =
     let s = c.self.inside.rows in
     let order = c.self.inside.order.items in
     let pages = c.self.inside.pages in
-    let is = c.self.invariant in
+    let is = c.self.invariant.forest in
     let h = c.args.h in
     let here = c.in-Some.here in
     let below = c.deref.result.now in
@@ -35,7 +35,7 @@ unlink-requires-clause-later g c =
     let s = c.self.inside.rows in
     let order = c.self.inside.order.items in
     let pages = c.self.inside.pages in
-    let is = c.self.invariant in
+    let is = c.self.invariant.forest in
     let h = c.args.h in
     let here = c.in-Some.here in
     let below = c.deref.result.now in
@@ -47,7 +47,7 @@ unlink-requires-clause-parent g c =
     let s = c.self.inside.rows in
     let order = c.self.inside.order.items in
     let pages = c.self.inside.pages in
-    let is = c.self.invariant in
+    let is = c.self.invariant.forest in
     let h = c.args.h in
     let here = c.in-Some.here in
     let below = c.deref.result.now in
@@ -59,7 +59,7 @@ overflow_cast-len g c =
     let s = c.self.inside.rows in
     let order = c.self.inside.order.items in
     let pages = c.self.inside.pages in
-    let is = c.self.invariant in
+    let is = c.self.invariant.forest in
     let h = c.args.h in
     let here = c.in-Some.here in
     let below = c.deref.result.now in
@@ -74,7 +74,7 @@ overflow_add-len g c =
     let s = c.self.inside.rows in
     let order = c.self.inside.order.items in
     let pages = c.self.inside.pages in
-    let is = c.self.invariant in
+    let is = c.self.invariant.forest in
     let h = c.args.h in
     let here = c.in-Some.here in
     let below = c.deref.result.now in
@@ -89,7 +89,7 @@ shrink_page-requires-clause-live g c =
     let s = c.self.inside.rows in
     let order = c.self.inside.order.items in
     let pages = c.self.inside.pages in
-    let is = c.self.invariant in
+    let is = c.self.invariant.forest in
     let h = c.args.h in
     let here = c.in-Some.here in
     let below = c.deref.result.now in
@@ -103,7 +103,7 @@ shrink_page-requires-clause-size g c =
     let s = c.self.inside.rows in
     let order = c.self.inside.order.items in
     let pages = c.self.inside.pages in
-    let is = c.self.invariant in
+    let is = c.self.invariant.forest in
     let h = c.args.h in
     let here = c.in-Some.here in
     let below = c.deref.result.now in
@@ -117,7 +117,7 @@ overflow_sub-self g c =
     let s = c.self.inside.rows in
     let order = c.self.inside.order.items in
     let pages = c.self.inside.pages in
-    let is = c.self.invariant in
+    let is = c.self.invariant.forest in
     let h = c.args.h in
     let here = c.in-Some.here in
     let below = c.deref.result.now in
@@ -131,7 +131,7 @@ invariant_of-self g c =
     let s = c.self.inside.rows in
     let order = c.self.inside.order.items in
     let pages = c.self.inside.pages in
-    let is = c.self.invariant in
+    let is = c.self.invariant.forest in
     let h = c.args.h in
     let here = c.in-Some.here in
     let below = c.deref.result.now in
@@ -140,16 +140,38 @@ invariant_of-self g c =
     let same = c.deref.ensures.len in
     let gone = pages-left s order pages is h here below at in
     let many = c.pages.ensures in
-    IsForest-left s order pages is h here below at c.take_one.new.rows c.take_all.new.rows c.take_one.ensures.rows c.take_all.ensures.rows
+    record {
+      forest =
+          IsForest-left s order pages is h here below at c.take_one.new.rows c.take_all.new.rows c.take_one.ensures.rows c.take_all.ensures.rows
+          c.unlink.new.rows c.unlink.ensures c.page.result c.page.ensures (c.len.result + 1) (omega (arith, len, same))
+          c.shrink_page.new.rows c.shrink_page.ensures c.sweep.new.order.items c.sweep.ensures.sweeps (c.self.inside.pages - c.pages.result) (omega (arith, gone, many));
+      swept = c.sweep.ensures.swept;
+    }
+
+pub sweep-requires : goal.sweep-requires
+sweep-requires g c =
+    let s = c.self.inside.rows in
+    let order = c.self.inside.order.items in
+    let pages = c.self.inside.pages in
+    let is = c.self.invariant.forest in
+    let h = c.args.h in
+    let here = c.in-Some.here in
+    let below = c.deref.result.now in
+    let at = leaves-at s order c.args.self.now c.self.view_is h c.standing.result here c.in-Some.is c.standing.ensures.value below c.in-Ok.leaving.0.items c.in-Ok.ensures.handles c.deref.ensures.value in
+    let len = c.len.ensures in
+    let again = c.len-2.ensures in
+    let same = c.deref.ensures.len in
+    let dead = dead-left s order pages is h here below at c.take_one.new.rows c.take_all.new.rows c.take_one.ensures.rows c.take_all.ensures.rows
     c.unlink.new.rows c.unlink.ensures c.page.result c.page.ensures (c.len.result + 1) (omega (arith, len, same))
-    c.shrink_page.new.rows c.shrink_page.ensures c.sweep.new.order.items c.sweep.ensures (c.self.inside.pages - c.pages.result) (omega (arith, gone, many))
+    c.shrink_page.new.rows c.shrink_page.ensures c.self.inside.dead c.self.invariant.swept in
+    omega (arith, dead, len, again)
 
 pub returns-clause-entries : goal.returns-clause-entries
 returns-clause-entries g c =
     let s = c.self.inside.rows in
     let order = c.self.inside.order.items in
     let pages = c.self.inside.pages in
-    let is = c.self.invariant in
+    let is = c.self.invariant.forest in
     let h = c.args.h in
     let here = c.in-Some.here in
     let below = c.deref.result.now in
@@ -158,7 +180,7 @@ returns-clause-entries g c =
     let same = c.deref.ensures.len in
     entries-left s order pages is h here below at c.take_one.new.rows c.take_all.new.rows c.take_one.ensures.rows c.take_all.ensures.rows
     c.unlink.new.rows c.unlink.ensures c.page.result c.page.ensures (c.len.result + 1) (omega (arith, len, same))
-    c.shrink_page.new.rows c.shrink_page.ensures c.sweep.new.order.items c.sweep.ensures
+    c.shrink_page.new.rows c.shrink_page.ensures c.sweep.new.order.items c.sweep.ensures.sweeps
     ∙ ap (λ (f : Forest _). closed h f.entries) c.self.view_is
 
 pub returns-clause-documents : goal.returns-clause-documents
@@ -166,7 +188,7 @@ returns-clause-documents g c =
     let s = c.self.inside.rows in
     let order = c.self.inside.order.items in
     let pages = c.self.inside.pages in
-    let is = c.self.invariant in
+    let is = c.self.invariant.forest in
     let h = c.args.h in
     let here = c.in-Some.here in
     let below = c.deref.result.now in
@@ -181,7 +203,7 @@ returns-clause-dead g c =
     let s = c.self.inside.rows in
     let order = c.self.inside.order.items in
     let pages = c.self.inside.pages in
-    let is = c.self.invariant in
+    let is = c.self.invariant.forest in
     let h = c.args.h in
     let here = c.in-Some.here in
     let below = c.deref.result.now in
@@ -191,14 +213,14 @@ returns-clause-dead g c =
     subst (λ (f : Forest _). StayDead f (forest_in c.shrink_page.new.rows c.sweep.new.order.items)) c.self.view_is
     (StayDead-left s order pages is h here below at c.take_one.new.rows c.take_all.new.rows c.take_one.ensures.rows c.take_all.ensures.rows
     c.unlink.new.rows c.unlink.ensures c.page.result c.page.ensures (c.len.result + 1) (omega (arith, len, same))
-    c.shrink_page.new.rows c.shrink_page.ensures c.sweep.new.order.items c.sweep.ensures)
+    c.shrink_page.new.rows c.shrink_page.ensures c.sweep.new.order.items c.sweep.ensures.sweeps)
 
 pub returns-clause-gone : goal.returns-clause-gone
 returns-clause-gone g c =
     let s = c.self.inside.rows in
     let order = c.self.inside.order.items in
     let pages = c.self.inside.pages in
-    let is = c.self.invariant in
+    let is = c.self.invariant.forest in
     let h = c.args.h in
     let here = c.in-Some.here in
     let below = c.deref.result.now in
@@ -207,4 +229,4 @@ returns-clause-gone g c =
     let same = c.deref.ensures.len in
     λ k some none. IsDead-left s order pages is h here below at c.take_one.new.rows c.take_all.new.rows c.take_one.ensures.rows c.take_all.ensures.rows
     c.unlink.new.rows c.unlink.ensures c.page.result c.page.ensures (c.len.result + 1) (omega (arith, len, same))
-    c.shrink_page.new.rows c.shrink_page.ensures c.sweep.new.order.items c.sweep.ensures k (subst (λ (f : Forest _). IsSome (entry_of f.entries k)) (sym c.self.view_is) some) none
+    c.shrink_page.new.rows c.shrink_page.ensures c.sweep.new.order.items c.sweep.ensures.sweeps k (subst (λ (f : Forest _). IsSome (entry_of f.entries k)) (sym c.self.view_is) some) none

@@ -8,15 +8,15 @@ pub returns-in_err-row-clause-value : goal.returns-in_err-row-clause-value
 returns-in_err-row-clause-value g c =
     ap option_copied c.from_residual.ensures
     ∙ ap (option_map (λ r. r.node)) (sym (ap option_copied c.in_err-row.was) ∙ c.get.ensures)
-    ∙ found-live c.self.inside.rows c.self.inside.order.items c.args.h c.self.invariant.listed c.self.invariant.nodes
+    ∙ found-live c.self.inside.rows c.self.inside.order.items c.args.h c.self.invariant.forest.listed c.self.invariant.forest.nodes
     ∙ ap (λ f. node_of f.entries c.args.h) c.self.view_is
 
 pub returns-clause-value : goal.returns-clause-value
 returns-clause-value g c =
     ap (option_map (λ r. r.node)) (sym (ap option_copied c.in_ok-row.was) ∙ c.get.ensures)
-    ∙ found-live c.self.inside.rows c.self.inside.order.items c.args.h c.self.invariant.listed c.self.invariant.nodes
+    ∙ found-live c.self.inside.rows c.self.inside.order.items c.args.h c.self.invariant.forest.listed c.self.invariant.forest.nodes
     ∙ ap (λ f. node_of f.entries c.args.h) c.self.view_is
 
 pub returns-clause-depth : goal.returns-clause-depth
 returns-clause-depth g c =
-    c.self.invariant.shallow c.args.h c.in_ok-row.row.now.node (ap (option_map (λ r. r.node)) (sym (sym (ap option_copied c.in_ok-row.was) ∙ c.get.ensures)))
+    c.self.invariant.forest.shallow c.args.h c.in_ok-row.row.now.node (ap (option_map (λ r. r.node)) (sym (sym (ap option_copied c.in_ok-row.was) ∙ c.get.ensures)))

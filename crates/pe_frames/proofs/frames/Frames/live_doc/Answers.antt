@@ -5,7 +5,7 @@ use Rattle.pe_frames.specs.declared.row.Row.{Row}
 use Rattle.pe_frames.specs.Forest.{Forest, Entry, entry_of, node_in, with_doc}
 use Rattle.pe_frames.specs.Kept.{kept, entries_in}
 use Rattle.pe_frames.proofs.Nodes.{found-live}
-use Rattle.pe_frames.proofs.Written.{IsForest-written, forest-written}
+use Rattle.pe_frames.proofs.Written.{IsForest-written, IsSwept-written, forest-written}
 use Rattle.pe_frames.proofs.frames.Frames.live_doc.Goals as goal
 
 live_some : {D : Type 0} (o : Option (Row D)) (e : Option (Entry D)) → option_map (λ r. r.node) o ≡ option_map node_in e → IsSome e → IsSome o
@@ -24,21 +24,24 @@ doc_shown (Some e) = refl
 pub unwrap-row-requires : goal.unwrap-row-requires
 unwrap-row-requires g c =
     let s = c.self.inside.rows in
-    let shown = found-live s c.self.inside.order.items c.args.h c.self.invariant.listed c.self.invariant.nodes in
+    let shown = found-live s c.self.inside.order.items c.args.h c.self.invariant.forest.listed c.self.invariant.forest.nodes in
     let some = subst (λ (f : Forest _). IsSome (entry_of f.entries c.args.h)) (sym c.self.view_is) c.requires in
     some_copied c.get_mut.result (live s c.args.h) c.get_mut.ensures.value (live_some (live s c.args.h) _ shown some)
 
 pub invariant_of-self-lent : goal.invariant_of-self-lent
 invariant_of-self-lent g c = λ w.
     let found = sym c.get_mut.ensures.value ∙ ap option_copied_mut c.unwrap-row.ensures in
-    IsForest-written c.args.h w c.self.inside.rows c.unwrap-row.result.now found c.self.inside.order.items c.self.inside.pages c.self.invariant
+    record {
+      forest = IsForest-written c.args.h w c.self.inside.rows c.unwrap-row.result.now found (λ x. c.get_mut.ensures.alone x (ap is_some found)) c.self.inside.order.items c.self.inside.pages c.self.invariant.forest;
+      swept = IsSwept-written c.args.h w c.self.inside.rows c.unwrap-row.result.now found (λ x. c.get_mut.ensures.alone x (ap is_some found)) c.self.inside.order.items c.self.inside.pages c.self.invariant.forest c.self.inside.dead c.self.invariant.swept;
+    }
 
 pub returns : goal.returns
 returns g c =
     let s = c.self.inside.rows in
     let found = sym c.get_mut.ensures.value ∙ ap option_copied_mut c.unwrap-row.ensures in
-    let shown = found-live s c.self.inside.order.items c.args.h c.self.invariant.listed c.self.invariant.nodes in (
-      (refl, λ w. forest-written c.args.h w s c.unwrap-row.result.now found c.self.inside.order.items c.self.inside.pages c.self.invariant ∙ ap (λ f. with_doc f c.args.h w) c.self.view_is),
+    let shown = found-live s c.self.inside.order.items c.args.h c.self.invariant.forest.listed c.self.invariant.forest.nodes in (
+      (refl, λ w. forest-written c.args.h w s c.unwrap-row.result.now found (λ x. c.get_mut.ensures.alone x (ap is_some found)) c.self.inside.order.items c.self.inside.pages c.self.invariant.forest ∙ ap (λ f. with_doc f c.args.h w) c.self.view_is),
       record {
         lends = tt;
         value =

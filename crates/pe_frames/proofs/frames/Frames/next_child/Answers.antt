@@ -10,7 +10,7 @@ use Rattle.pe_frames.proofs.frames.Frames.next_child.Goals as goal
 pub returns-in_err-here-clause-value : goal.returns-in_err-here-clause-value
 returns-in_err-here-clause-value g c =
     let xs = kept c.self.inside.rows c.self.inside.order.items [] in
-    let is = c.self.invariant in
+    let is = c.self.invariant.forest in
     let p = c.args.parent in
     let value = subst (λ (f : Forest _). c.standing.result ≡ option_map (standing_in f.entries p) (entry_of f.entries p)) (sym c.self.view_is) c.standing.ensures.value in
     let none = no-entry (entries_in xs) p c.standing.result c.in_err-here.was value in
@@ -19,7 +19,7 @@ returns-in_err-here-clause-value g c =
 pub returns-in-None-clause-value : goal.returns-in-None-clause-value
 returns-in-None-clause-value g c =
     let xs = kept c.self.inside.rows c.self.inside.order.items [] in
-    let is = c.self.invariant in
+    let is = c.self.invariant.forest in
     let p = c.args.parent in
     let value = subst (λ (f : Forest _). c.standing.result ≡ option_map (standing_in f.entries p) (entry_of f.entries p)) (sym c.self.view_is) c.standing.ensures.value in
     let at = stands-at (entries_in xs) p c.standing.result c.in_ok-here.here c.in_ok-here.was value in

@@ -16,7 +16,7 @@ pub returns-then-is_some : goal.returns-then-is_some
 returns-then-is_some g c =
     let es = c.args.self.now.entries in
     let up = c.loop-root.up in
-    let tree = tree-seen c.self.inside.rows c.self.inside.order.items c.self.inside.pages c.self.invariant c.args.self.now c.self.view_is in
+    let tree = tree-seen c.self.inside.rows c.self.inside.order.items c.self.inside.pages c.self.invariant.forest c.args.self.now c.self.view_is in
     let other = differ c.ne.result (same_handle up c.args.root) c.ne.ensures c.loop-root-test.true in
     let at = stands-at es up c.standing.result c.in_ok-here.here c.in_ok-here.was c.standing.ensures.value in
     past-later es tree c.args.root up c.in_ok-here.here c.loop-root.invariant.below other at (sym c.is_some.ensures ∙ c.if-is_some.true) ∙ c.loop-root.invariant.same
@@ -33,7 +33,7 @@ pub loop-root-smaller : goal.loop-root-smaller
 loop-root-smaller g c =
     let es = c.args.self.now.entries in
     let up = c.loop-root.up in
-    let tree = tree-seen c.self.inside.rows c.self.inside.order.items c.self.inside.pages c.self.invariant c.args.self.now c.self.view_is in
+    let tree = tree-seen c.self.inside.rows c.self.inside.order.items c.self.inside.pages c.self.invariant.forest c.args.self.now c.self.view_is in
     let at = stands-at es up c.standing.result c.in_ok-here.here c.in_ok-here.was c.standing.ensures.value in
     parent-shorter es tree up c.in_ok-up.up (parent-stands es up c.in_ok-here.here at ∙ c.in_ok-up.was)
 
@@ -41,7 +41,7 @@ pub loop-root-preserved : goal.loop-root-preserved
 loop-root-preserved g c =
     let es = c.args.self.now.entries in
     let up = c.loop-root.up in
-    let tree = tree-seen c.self.inside.rows c.self.inside.order.items c.self.inside.pages c.self.invariant c.args.self.now c.self.view_is in
+    let tree = tree-seen c.self.inside.rows c.self.inside.order.items c.self.inside.pages c.self.invariant.forest c.args.self.now c.self.view_is in
     let other = differ c.ne.result (same_handle up c.args.root) c.ne.ensures c.loop-root-test.true in
     let at = stands-at es up c.standing.result c.in_ok-here.here c.in_ok-here.was c.standing.ensures.value in
     record {
@@ -53,6 +53,6 @@ pub returns : goal.returns
 returns g c =
     let es = c.args.self.now.entries in
     let up = c.loop-root.up in
-    let tree = tree-seen c.self.inside.rows c.self.inside.order.items c.self.inside.pages c.self.invariant c.args.self.now c.self.view_is in
+    let tree = tree-seen c.self.inside.rows c.self.inside.order.items c.self.inside.pages c.self.invariant.forest c.args.self.now c.self.view_is in
     let same = (same_handle-Decides up c.args.root).0 (agree c.ne.result (same_handle up c.args.root) c.ne.ensures c.loop-root-test.false) in
     sym (past-root es tree c.args.root up c.loop-root.invariant.below same) ∙ c.loop-root.invariant.same

@@ -5,5 +5,5 @@ use Rattle.pe_frames.proofs.frames.Frames.preorder_next.Goals as goal
 
 pub returns-then-not-is_within-clause-value : goal.returns-then-not-is_within-clause-value
 returns-then-not-is_within-clause-value g c =
-    let tree = tree-seen c.self.inside.rows c.self.inside.order.items c.self.inside.pages c.self.invariant c.args.self.now c.self.view_is in
+    let tree = tree-seen c.self.inside.rows c.self.inside.order.items c.self.inside.pages c.self.invariant.forest c.args.self.now c.self.view_is in
     sym (after-outside c.args.self.now.entries tree c.args.root c.args.at (λ w. true≢false (sym (c.is_within.ensures.1 w) ∙ c.if-not-is_within.true)))

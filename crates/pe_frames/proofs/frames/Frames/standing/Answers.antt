@@ -9,11 +9,11 @@ pub returns-in_err-row-clause-value : goal.returns-in_err-row-clause-value
 returns-in_err-row-clause-value g c =
     c.from_residual.ensures
     ∙ ap (option_map standing_row) (sym (ap option_copied c.in_err-row.was) ∙ c.get.ensures)
-    ∙ standing-live c.self.inside.rows c.self.inside.order.items c.self.inside.pages c.self.invariant c.args.h
+    ∙ standing-live c.self.inside.rows c.self.inside.order.items c.self.inside.pages c.self.invariant.forest c.args.h
     ∙ ap (λ f. option_map (standing_in f.entries c.args.h) (entry_of f.entries c.args.h)) c.self.view_is
 
 pub returns-clause-value : goal.returns-clause-value
 returns-clause-value g c =
     ap (option_map standing_row) (sym (ap option_copied c.in_ok-row.was) ∙ c.get.ensures)
-    ∙ standing-live c.self.inside.rows c.self.inside.order.items c.self.inside.pages c.self.invariant c.args.h
+    ∙ standing-live c.self.inside.rows c.self.inside.order.items c.self.inside.pages c.self.invariant.forest c.args.h
     ∙ ap (λ f. option_map (standing_in f.entries c.args.h) (entry_of f.entries c.args.h)) c.self.view_is
