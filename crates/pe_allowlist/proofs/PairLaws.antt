@@ -1,5 +1,5 @@
 -- Replacing the pair of a feature, and adding one.
-use Rattle.std.proofs.Common.{◌≡◌, ℕ, nat_lt, suc, ◌+◌, ◌<◌, Bool, true, false, ◌==◌, cond, List, [], ◌∷◌, ◌++◌, length, set, Option, Some, None, option_map, find, refl, sym, ap, arith}
+use Rattle.std.proofs.Common.{◌≡◌, ℕ, nat_lt, suc, ◌+◌, ◌<◌, Bool, true, false, ◌==◌, cond, List, [], ◌∷◌, ◌++◌, length, set, Option, Some, None, option_map, find, refl, sym, ◌∙◌, ap, arith}
 use Rattle.std.specs.List.{position, position_or_len}
 use Rattle.std.specs.Option.{option_or}
 use Rattle.std.proofs.lemmas.Bool.Decides.{nat_tests}
@@ -7,7 +7,7 @@ use Rattle.std.proofs.lemmas.List.Folds.{find-append}
 use Rattle.pe_features.specs.declared.feature.Feature.{Feature}
 use Rattle.pe_features.specs.Features.{feature_number, same_feature}
 use Rattle.pe_allowlist.specs.declared.allowlist.Allowlist.{Allowlist}
-use Rattle.pe_allowlist.specs.Lists.{is_of_feature, lists_of}
+use Rattle.pe_allowlist.specs.Lists.{is_of_feature, lists_of, NoFeatureTwice}
 
 abbrev Row : Type 0
 Row = Feature × Allowlist
@@ -99,3 +99,52 @@ put_new rows g f list h =
     let absent : find (numbered n) rows ≡ None = none_found rows n (place_not_found _ (position_or_len (numbered n) rows) (sym h)) in
     rw (find-append (numbered (feature_number f)) rows ((g, list) ∷ []))
     (new_last (n == feature_number f) (g, list) (find (numbered (feature_number f)) rows) (λ (t : (n == feature_number f) ≡ true). rw (same_test n (feature_number f) t) at absent))
+
+-- ---- no feature stands twice
+
+-- a pair in the place of the first of its feature
+set_once : (rows : List Row) (row : Row) (i : ℕ) → i ≡ position_or_len (is_of_feature row.0) rows → i < length rows
+    → NoFeatureTwice rows → NoFeatureTwice (set rows i row)
+set_once [] row i e k once = absurd (omega arith)
+set_once (x ∷ rows) row i e k once = elim (feature_number x.0 == feature_number row.0) as (λ b. (feature_number x.0 == feature_number row.0) ≡ b → NoFeatureTwice (set (x ∷ rows) i row)) [
+  | true ↦ λ t.
+      let here : i ≡ 0 = rw t at e in
+      rw here (rw (sym (same_test (feature_number x.0) (feature_number row.0) t)) once.0, once.1)
+  | false ↦ λ t.
+      let counted : i ≡ 1 + position_or_len (is_of_feature row.0) rows = rw t at e in
+      let later : i ≡ suc (position_or_len (is_of_feature row.0) rows) = omega arith in
+      let within : position_or_len (is_of_feature row.0) rows < length rows = omega arith in
+      let other : (feature_number row.0 == feature_number x.0) ≡ false = grind (arith, nat_tests) in
+      let found = set-found rows row (position_or_len (is_of_feature row.0) rows) (feature_number row.0) (feature_number x.0) refl refl within in
+      rw later (
+        found ∙ rw other once.0,
+        set_once rows row (position_or_len (is_of_feature row.0) rows) refl within once.1,
+      )
+] refl
+
+-- a pair of a feature that the list lacks, at the end
+append_once : (rows : List Row) (row : Row) → find (is_of_feature row.0) rows ≡ None → NoFeatureTwice rows → NoFeatureTwice (rows ++ row ∷ [])
+append_once [] row absent once = (refl, tt)
+append_once (x ∷ rows) row absent once = elim (feature_number x.0 == feature_number row.0) as (λ b. (feature_number x.0 == feature_number row.0) ≡ b → NoFeatureTwice ((x ∷ rows) ++ row ∷ [])) [
+  | true ↦ λ t.
+      let present : Some x ≡ None = rw t at absent in
+      cc
+  | false ↦ λ t.
+      let rest : find (is_of_feature row.0) rows ≡ None = rw t at absent in
+      let other : (feature_number row.0 == feature_number x.0) ≡ false = grind (arith, nat_tests) in (
+        find-append (is_of_feature x.0) rows (row ∷ []) ∙ rw (once.0, other) refl,
+        append_once rows row rest once.1,
+      )
+] refl
+
+pub put_found_once : (rows : List Row) (g : Feature) (list : Allowlist) (i : ℕ) → Some i ≡ position (is_of_feature g) rows
+    → NoFeatureTwice rows → NoFeatureTwice (set rows i (g, list))
+put_found_once rows g list i h once =
+    let at : (i ≡ position_or_len (is_of_feature g) rows) × (position_or_len (is_of_feature g) rows < length rows) = place_found (nat_lt (position_or_len (is_of_feature g) rows) (length rows)) i (position_or_len (is_of_feature g) rows) refl (sym h) in
+    set_once rows (g, list) i at.0 (omega (arith, at.0, at.1)) once
+
+pub put_new_once : (rows : List Row) (g : Feature) (list : Allowlist) → None ≡ position (is_of_feature g) rows
+    → NoFeatureTwice rows → NoFeatureTwice (rows ++ (g, list) ∷ [])
+put_new_once rows g list h once =
+    let absent : find (is_of_feature g) rows ≡ None = none_found rows (feature_number g) (place_not_found _ (position_or_len (is_of_feature g) rows) (sym h)) in
+    append_once rows (g, list) absent once

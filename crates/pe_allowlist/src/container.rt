@@ -2,7 +2,7 @@
 ghost use Rattle.std.specs.Prelude.{◌≡◌};
 ghost use Rattle.std.specs.Option.{option_copied};
 ghost use Rattle.pe_features.specs.declared.feature.Feature.{Feature};
-ghost use Rattle.pe_allowlist.specs.Lists.{lists_of, no_lists};
+ghost use Rattle.pe_allowlist.specs.Lists.{lists_of, no_lists, NoFeatureTwice};
 
 use crate::allowlist::Allowlist;
 use crate::pairs::find_list;
@@ -30,10 +30,13 @@ impl Model for Container {
     ghost use Rattle.std.specs.Prelude.{List};
     ghost use Rattle.pe_features.specs.declared.feature.Feature.{Feature};
     ghost use Rattle.pe_allowlist.specs.declared.allowlist.Allowlist.{Allowlist};
+    ghost use Rattle.pe_allowlist.specs.Lists.{NoFeatureTwice};
 
     ghost Value = { List (Feature × Allowlist) };
 
     ghost view = { λ c. c.rows.items };
+
+    ghost invariant = { λ c. NoFeatureTwice c.rows.items };
 }
 
 impl Container {
@@ -49,6 +52,7 @@ impl Container {
 
     /// The map of these pairs.
     pub(crate) fn of(rows: Vec<(Feature, Allowlist)>) -> Container
+        requires { NoFeatureTwice rows.items }
         ensures { result ≡ rows.items }
     {
         Container { rows }

@@ -21,10 +21,13 @@ impl Model for Declared {
     ghost use Rattle.std.specs.Prelude.{List};
     ghost use Rattle.pe_features.specs.declared.feature.Feature.{Feature};
     ghost use Rattle.pe_allowlist.specs.declared.allowlist.Allowlist.{Allowlist};
+    ghost use Rattle.pe_allowlist.specs.Lists.{NoFeatureTwice};
 
     ghost Value = { List (Feature × Allowlist) };
 
     ghost view = { λ d. d.rows.items };
+
+    ghost invariant = { λ d. NoFeatureTwice d.rows.items };
 }
 
 impl Declared {

@@ -4,7 +4,7 @@ ghost use Rattle.std.specs.Option.{option_copied};
 ghost use Rattle.std.specs.List.{position};
 ghost use Rattle.pe_features.specs.declared.feature.Feature.{Feature};
 ghost use Rattle.pe_features.specs.Features.{same_feature};
-ghost use Rattle.pe_allowlist.specs.Lists.{lists_of, is_of_feature};
+ghost use Rattle.pe_allowlist.specs.Lists.{lists_of, is_of_feature, NoFeatureTwice};
 
 use crate::allowlist::Allowlist;
 use pe_features::Feature;
@@ -35,6 +35,7 @@ pub(crate) fn put_list(
     ensures put { OnOk result ((f : Feature)
         → lists_of rows.new.items f ≡ (if same_feature feature f then Some list else lists_of rows.old.items f)) }
     ensures wanting { OnErr result (rows.new.items ≡ rows.old.items) }
+    ensures once { NoFeatureTwice rows.old.items → NoFeatureTwice rows.new.items }
 {
     match place_of(rows, feature) {
         Some(place) => {

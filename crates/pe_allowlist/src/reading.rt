@@ -4,7 +4,7 @@ ghost use Rattle.std.specs.Option.{option_copied, option_or};
 ghost use Rattle.pe_features.specs.declared.feature.Feature.{Feature};
 ghost use Rattle.pe_features.specs.Features.{feature_name};
 ghost use Rattle.pe_allowlist.specs.AsciiWords.{pieces_at};
-ghost use Rattle.pe_allowlist.specs.Lists.{lists_of, is_policy_controlled};
+ghost use Rattle.pe_allowlist.specs.Lists.{lists_of, is_policy_controlled, NoFeatureTwice};
 ghost use Rattle.pe_allowlist.specs.Expressions.{expression_at};
 ghost use Rattle.pe_allowlist.specs.ContainerPolicy as spec;
 
@@ -102,9 +102,10 @@ fn put_piece(
     declared: &DeclaredOrigin,
     piece: &[u8],
 ) -> Result<(), AllocError>
-    ensures { OnOk result ((f : Feature)
+    ensures put { OnOk result ((f : Feature)
         → lists_of rows.new.items f
         ≡ option_or (spec.list_by_piece embedder.now declared.now f piece.now) (lists_of rows.old.items f)) }
+    ensures once { NoFeatureTwice rows.old.items → NoFeatureTwice rows.new.items }
 {
     let words = words(alloc, piece)?;
     let Some((name, words)) = words.split_first() else {
@@ -125,9 +126,10 @@ fn read_pieces(
     embedder: &Origin,
     declared: &DeclaredOrigin,
 ) -> Result<Vec<(Feature, Allowlist)>, AllocError>
-    ensures { IfOk result (λ rows. (f : Feature)
+    ensures read { IfOk result (λ rows. (f : Feature)
         → lists_of rows.items f
         ≡ spec.list_by_pieces embedder.now declared.now f (pieces_at spec.is_semicolon text.now)) }
+    ensures once { IfOk result (λ rows. NoFeatureTwice rows.items) }
 {
     let pieces = pieces(alloc, text)?;
     let mut rows = Vec::new(alloc);
@@ -143,9 +145,10 @@ fn put_fullscreen(
     rows: &mut Vec<(Feature, Allowlist)>,
     fullscreen: bool,
 ) -> Result<(), AllocError>
-    ensures { OnOk result ((f : Feature)
+    ensures put { OnOk result ((f : Feature)
         → lists_of rows.new.items f
         ≡ option_or (lists_of rows.old.items f) (spec.list_by_fullscreen fullscreen f)) }
+    ensures once { NoFeatureTwice rows.old.items → NoFeatureTwice rows.new.items }
 {
     if !fullscreen {
         return Ok(());

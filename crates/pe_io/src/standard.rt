@@ -12,9 +12,10 @@ use std::marker::Model;
 /// How many times an interrupted call is tried again.
 const RETRIES: u32 = 1000;
 
-/// A source over a reader of the runtime. It counts the reader's failures, tells nothing of the
-/// bytes, and tries an interrupted read again at most 1,000 times. Contracts see it as its count
-/// of faults.
+/// A source over a reader of the runtime. It counts the reader's failures, hands on what the reader
+/// gives, and tries an interrupted read again at most 1,000 times. Contracts see it as what its
+/// reader has left and its count of faults. As a source it tells nothing of the bytes, since the
+/// runtime's standard input does not.
 #[derive(Drop)]
 pub struct StdSource<R: Read + Drop> {
     reader: R,
@@ -22,17 +23,17 @@ pub struct StdSource<R: Read + Drop> {
 }
 
 impl<R: Read + Drop> Model for StdSource<R> {
-    ghost use Rattle.std.specs.Prelude.{ℕ};
+    ghost use Rattle.pe_io.specs.Standard.{StdReading};
 
-    ghost Value = { ℕ };
+    ghost Value = { StdReading };
 
-    ghost view = { λ s. s.faults };
+    ghost view = { λ s. record { left = R.remaining s.reader; faults = s.faults } };
 }
 
 impl<R: Read + Drop> StdSource<R> {
     /// Reads from this reader, with no fault counted so far.
     pub fn new(reader: R) -> StdSource<R>
-        ensures { result ≡ 0 }
+        ensures { result ≡ record { left = R.remaining reader; faults = 0 } }
     {
         StdSource { reader, faults: 0 }
     }
@@ -41,13 +42,14 @@ impl<R: Read + Drop> StdSource<R> {
 impl<R: Read + Drop> Source for StdSource<R> {
     ghost left = { λ _. None };
 
-    ghost faults = { λ s. s };
+    ghost faults = { λ s. s.faults };
 
     fn read(&mut self, room: &mut [u8]) -> Result<usize, Failed>
         requires { 0 < length room.old }
         ensures bound { ReadsAtMost result room.new }
-        ensures faults { CountsFaults self.old self.new result }
-        ensures counted { OnErr result (self.new ≡ next_u64 self.old) }
+        ensures reader { ReadConsumes self.old.left self.new.left result room.new }
+        ensures faults { CountsFaults self.old.faults self.new.faults result }
+        ensures counted { OnErr result (self.new.faults ≡ next_u64 self.old.faults) }
     {
         for _ in 0..=RETRIES {
             match self.reader.read(room) {
@@ -61,9 +63,10 @@ impl<R: Read + Drop> Source for StdSource<R> {
     }
 }
 
-/// A sink over a writer of the runtime. It counts the writer's failures, tells nothing of the
-/// bytes, and tries an interrupted write again at most 1,000 times. A writer that takes nothing of
-/// a piece has failed. Contracts see it as its count of faults.
+/// A sink over a writer of the runtime. It counts the writer's failures, hands the pieces on to the
+/// writer, and tries an interrupted write again at most 1,000 times. A writer that takes nothing of
+/// a piece has failed. Contracts see it as what its writer holds and its count of faults. As a sink
+/// it tells nothing of the bytes, since the runtime's standard output does not.
 #[derive(Drop)]
 pub struct StdSink<W: Write + Drop> {
     writer: W,
@@ -71,17 +74,17 @@ pub struct StdSink<W: Write + Drop> {
 }
 
 impl<W: Write + Drop> Model for StdSink<W> {
-    ghost use Rattle.std.specs.Prelude.{ℕ};
+    ghost use Rattle.pe_io.specs.Standard.{StdWriting};
 
-    ghost Value = { ℕ };
+    ghost Value = { StdWriting };
 
-    ghost view = { λ s. s.faults };
+    ghost view = { λ s. record { held = W.contents s.writer; faults = s.faults } };
 }
 
 impl<W: Write + Drop> StdSink<W> {
     /// Writes to this writer, with no fault counted so far.
     pub fn new(writer: W) -> StdSink<W>
-        ensures { result ≡ 0 }
+        ensures { result ≡ record { held = W.contents writer; faults = 0 } }
     {
         StdSink { writer, faults: 0 }
     }
@@ -90,13 +93,14 @@ impl<W: Write + Drop> StdSink<W> {
 impl<W: Write + Drop> Sink for StdSink<W> {
     ghost written = { λ _. None };
 
-    ghost faults = { λ s. s };
+    ghost faults = { λ s. s.faults };
 
     fn write(&mut self, piece: &[u8]) -> Result<usize, Failed>
         ensures bound { WritesAtMost result piece.now }
         ensures some { TakesSome result piece.now }
-        ensures faults { CountsFaults self.old self.new result }
-        ensures counted { OnErr result (self.new ≡ next_u64 self.old) }
+        ensures writer { WriteAppends self.old.held self.new.held result piece.now }
+        ensures faults { CountsFaults self.old.faults self.new.faults result }
+        ensures counted { OnErr result (self.new.faults ≡ next_u64 self.old.faults) }
     {
         if piece.is_empty() {
             return Ok(0);

@@ -148,3 +148,14 @@ fn a_full_sink_takes_the_empty_piece(rt: HostRuntime) -> Result<(), Fail> {
     assert_eq!(rt; sink.write(b""), Ok(0));
     Ok(())
 }
+
+/// The second call fails: a piece that one call takes is written by that call alone.
+#[test]
+fn a_piece_takes_no_more_calls_than_it_needs(rt: HostRuntime) -> Result<(), Fail> {
+    let fails = vec![in rt.alloc(); 1u64]?;
+    let mut sink = MemSink::new(rt.alloc(), 9, Vec::new(rt.alloc()), fails)?;
+    assert_eq!(rt; write_whole(&mut sink, b"ab"), Ok(()));
+    assert_eq!(rt; write_whole(&mut sink, b"c"), Err(Failed));
+    assert_eq!(rt; sink.as_slice(), b"ab".as_slice());
+    Ok(())
+}

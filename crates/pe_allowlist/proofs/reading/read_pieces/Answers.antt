@@ -4,6 +4,9 @@ use Rattle.pe_allowlist.proofs.PieceLaws.{pieces-next}
 use Rattle.pe_allowlist.proofs.reading.read_pieces.Goals as goal
 
 pub loop-piece-preserved : goal.loop-piece-preserved
-loop-piece-preserved c = λ f.
-    pieces-next c.args.embedder.now c.args.declared.now f c.deref-piece-items.result.now c.loop-piece.piece-index (record { ref_ptr = (0, 0); now = [] }) (lists_of c.loop-piece.rows.items f) (lists_of c.put_piece.new.rows.items f)
-    c.loop-piece-test.true (c.loop-piece.invariant f) (c.in_ok-put_piece.ensures f)
+loop-piece-preserved c = record {
+  read = λ f.
+      pieces-next c.args.embedder.now c.args.declared.now f c.deref-piece-items.result.now c.loop-piece.piece-index (record { ref_ptr = (0, 0); now = [] }) (lists_of c.loop-piece.rows.items f) (lists_of c.put_piece.new.rows.items f)
+      c.loop-piece-test.true (c.loop-piece.invariant.read f) (c.in_ok-put_piece.ensures.put f);
+  once = c.in_ok-put_piece.ensures.once c.loop-piece.invariant.once;
+}
