@@ -4,7 +4,7 @@ use Rattle.pe_lines.specs.Lines.{told_lines}
 use Rattle.pe_events.specs.declared.event.Event.{Event}
 use Rattle.pe_events.specs.declared.event.Event.TheVariants as event
 use Rattle.pe_events.specs.Timed.{Timed}
-use Rattle.pe_rules.specs.History.{Item, Step, Told, History, each, clock}
+use Rattle.pe_rules.specs.History.{Item, Step, Told, each, clock}
 use Rattle.pe_rules.specs.Numbering.{is_frame, last_document}
 use Rattle.pe_rules.specs.Making.{frame_of}
 use Rattle.pe_rules.specs.Embedders.{chain, top_document, page, page_of_frame, depth}
@@ -15,10 +15,10 @@ use Rattle.pe_rules.specs.Changes.{numbers_above, changes_before, changes_after}
 use Rattle.pe_rules.specs.Replies.{told}
 use Rattle.pe_script.specs.Reading.{Reading, Says, reading_of}
 use Rattle.pe_output.specs.OutputText.{reading_of_told, text_from, output_text}
-use Rattle.pe_laws.proofs.Older.{chain-older, frame-older, flag-older}
+use Rattle.pe_laws.specs.Effects.{effects}
+use Rattle.pe_laws.specs.HistoryLaws.{HistoryLaws}
 use Rattle.pe_rows.proofs.OnLiterals.{output_on_literals}
-use Rattle.pe_rows.proofs.Quiet.{IsQuiet, last-older, is-frame-older, current-stays}
-use Rattle.pe_rows.proofs.Repeated.{blocks, IsTaken, text-taken, map-blocks}
+use Rattle.pe_long_rows.proofs.Repeated.{blocks, IsTaken, text-taken, map-blocks}
 
 -- the first line opens a page of a.example
 abbrev pub opening : Timed
@@ -39,35 +39,24 @@ pub record IsFirstPage (T : Told) : Type 0 where
   pub frame : frame_of T 1 ≡ 1
   pub flag : sandbox_flag T 1 ≡ false
 
--- as much was told as happened
-pub length-told : (duration : ℕ) (H : History) → length (told duration H) ≡ length H
-unfolding told
-length-told duration [] = refl
-length-told duration (e ∷ H) = ap suc (length-told duration H)
-
 -- the page after the first line
 pub opened : IsFirstPage (told 5000 (opening ∷ []))
 unfolding output_on_literals
-opened = record { begun = omega (arith, length-told 5000 (opening ∷ [])); clock_is = refl; made = refl; document = refl; current = refl; chain_is = refl; frame = refl; flag = refl }
-
-clock-step : (e : Event) (item : Item) (T : Told) → clock (step e item ∷ T) ≡ 0
-unfolding clock
-clock-step e item T = refl
+opened = record { begun = omega arith; clock_is = refl; made = refl; document = refl; current = refl; chain_is = refl; frame = refl; flag = refl }
 
 -- an event that ends no document leaves the page
-pub kept : (e : Event) (item : Item) (T : Told) → IsQuiet e → IsFirstPage T → IsFirstPage (step e item ∷ T)
-kept e item T q w =
-    let ne : suc (length T) ≢ 1 = omega (arith, w.begun) in
+pub kept : (laws : HistoryLaws) (e : Event) (item : Item) (T : Told) → (effects e item).ends_documents ≡ false → IsFirstPage T → IsFirstPage (step e item ∷ T)
+kept laws e item T quiet w =
     let other : 1 ≢ suc (length T) = omega (arith, w.begun) in
     record {
       begun = omega arith;
-      clock_is = clock-step e item T;
-      made = is-frame-older (step e item) T 1 other ∙ w.made;
-      document = last-older (step e item) T 1 q ne ∙ w.document;
-      current = current-stays (step e item) T 1 q w.begun ∙ w.current;
-      chain_is = chain-older (step e item) T 1 w.begun ∙ w.chain_is;
-      frame = frame-older (step e item) T 1 w.begun ∙ w.frame;
-      flag = flag-older (step e item) T 1 w.begun ∙ w.flag;
+      clock_is = laws.steps.clock_step (step e item) T;
+      made = laws.numbering.is_frame_older (step e item) T 1 other ∙ w.made;
+      document = laws.effects.older_last_document_stays (step e item) T 1 quiet other ∙ w.document;
+      current = laws.effects.older_current_stays (step e item) T 1 quiet w.begun ∙ w.current;
+      chain_is = laws.embedders.chain_older (step e item) T 1 other ∙ w.chain_is;
+      frame = laws.making.frame_of_older (step e item) T 1 other ∙ w.frame;
+      flag = laws.origins.sandbox_flag_older (step e item) T 1 other ∙ w.flag;
     }
 
 pub document-of : (T : Told) → IsFirstPage T → document_in T 1 ≡ Some 1
