@@ -1,5 +1,5 @@
 -- Numbers in lists that are filtered.
-use Rattle.std.proofs.Common.{◌≡◌, ◌≢◌, ℕ, suc, Bool, true, false, not, ◌&&◌, ◌||◌, ◌==◌, List, [], ◌∷◌, length, filter, Some, None, refl, sym, ◌∙◌, ap, arith, cond}
+use Rattle.std.proofs.Common.{◌≡◌, ◌≢◌, ℕ, suc, Bool, true, false, not, ◌&&◌, ◌||◌, ◌==◌, List, [], ◌∷◌, length, filter, map, Option, Some, None, option_map, option_and_then, refl, sym, ◌∙◌, ap, arith, cond}
 use Rattle.std.specs.List.{list_any}
 use Rattle.pe_rules.specs.Activation.{is_one_of}
 use Rattle.pe_rules.specs.Prompts.{first_of}
@@ -60,3 +60,16 @@ first-is-one (x ∷ xs) k h = let is : x ≡ k = cc in rw (is, is_same k) refl
 pub none-without-first : (xs : List ℕ) (k : ℕ) → first_of xs ≡ None → is_one_of xs k ≡ false
 none-without-first [] k h = refl
 none-without-first (x ∷ xs) k h = cc
+
+-- two questions that are one on what stands there have one answer
+pub map-same : {A B : Type 0} (f g : A → B) (o : Option A) → ((x : A) → o ≡ Some x → f x ≡ g x) → option_map f o ≡ option_map g o
+map-same f g None same = refl
+map-same f g (Some x) same = ap Some (same x refl)
+
+pub then-same : {A B : Type 0} (f g : A → Option B) (o : Option A) → ((x : A) → o ≡ Some x → f x ≡ g x) → option_and_then f o ≡ option_and_then g o
+then-same f g None same = refl
+then-same f g (Some x) same = same x refl
+
+pub each-same : {A : Type 0} (f g : ℕ → A) (xs : List ℕ) → ((x : ℕ) → f x ≡ g x) → map f xs ≡ map g xs
+each-same f g [] same = refl
+each-same f g (x ∷ xs) same = rw (same x, each-same f g xs same) refl

@@ -124,11 +124,11 @@ abbrev pub AllWithin : ℕ → List ℕ → Type 0
 AllWithin n [] = Unit {0}
 AllWithin n (d ∷ ds) = (d ≤ n) × AllWithin n ds
 
-within-more : (n : ℕ) (ds : List ℕ) → AllWithin n ds → AllWithin (suc n) ds
+pub within-more : (n : ℕ) (ds : List ℕ) → AllWithin n ds → AllWithin (suc n) ds
 within-more n [] h = tt
 within-more n (d ∷ ds) h = (omega (arith, h.0), within-more n ds h.1)
 
-within-end : (n d : ℕ) (ds : List ℕ) → AllWithin n ds → d ≤ n → AllWithin n (ds ++ d ∷ [])
+pub within-end : (n d : ℕ) (ds : List ℕ) → AllWithin n ds → d ≤ n → AllWithin n (ds ++ d ∷ [])
 within-end n d [] h e = (e, tt)
 within-end n d (x ∷ ds) h e = (h.0, within-end n d ds h.1 e)
 
@@ -148,7 +148,7 @@ unfolding chain along
 chain-within [] d = tt
 chain-within (s ∷ T) d = chain-step T (chain-within T) (d == suc (length T)) (making_by s.event T) d
 
-link-older : (s : Step) (T : Told) (d : ℕ) → d ≤ length T → link (s ∷ T) d ≡ link T d
+pub link-older : (s : Step) (T : Told) (d : ℕ) → d ≤ length T → link (s ∷ T) d ≡ link T d
 unfolding link
 link-older s T d h = rw (origin-older s T d h, declared-older s T d h, container-older s T d h) refl
 

@@ -1,5 +1,5 @@
 -- Of each pair, one prompt of a page is pending.
-use Rattle.std.proofs.Common.{◌≡◌, ◌≢◌, ◌⊎◌, inl, inr, ℕ, suc, ◌+◌, ◌≤◌, Bool, true, false, not, ◌&&◌, ◌||◌, ◌==◌, List, [], ◌∷◌, ◌++◌, length, filter, Option, Some, None, is_some, unwrap_or, option_map, option_and_then, option_to_list, refl, sym, ◌∙◌, ap, arith, length-append}
+use Rattle.std.proofs.Common.{◌≡◌, ◌⊎◌, inl, inr, ℕ, suc, ◌+◌, ◌≤◌, Bool, true, false, not, ◌&&◌, ◌||◌, ◌==◌, List, [], ◌∷◌, ◌++◌, length, filter, Option, Some, None, is_some, unwrap_or, option_map, option_and_then, option_to_list, refl, sym, ◌∙◌, ap, arith, length-append}
 use Rattle.std.specs.Option.{option_or}
 use Rattle.std.specs.Bool.{Decides}
 use Rattle.std.specs.List.{list_any}
@@ -9,7 +9,7 @@ use Rattle.pe_features.specs.Features.{feature_named}
 use Rattle.pe_store.specs.Pairs.{Pair, is_same_pair}
 use Rattle.pe_events.specs.declared.event.Event.{Event}
 use Rattle.pe_events.specs.declared.event.Event.TheVariants as event
-use Rattle.pe_rules.specs.History.{Step, Told, History, when, newest, each, step_at}
+use Rattle.pe_rules.specs.History.{Step, Told, History, when, newest, each}
 use Rattle.pe_rules.specs.Numbering.{made, makes_prompt}
 use Rattle.pe_rules.specs.Embedders.{page}
 use Rattle.pe_rules.specs.Current.{is_current, document_in}
@@ -19,21 +19,14 @@ use Rattle.pe_rules.specs.Prompts.{prompt_told, asker, asker_of, requests, answe
 use Rattle.pe_rules.specs.Causes.{joining}
 use Rattle.pe_rules.specs.Replies.{item_of, told}
 use Rattle.pe_laws.specs.PendingPrompts.{IsOnePerPair}
-use Rattle.pe_laws.proofs.Numbers.{not_same, is_same, same-numbers}
+use Rattle.pe_laws.proofs.Numbers.{same-numbers}
 use Rattle.pe_laws.proofs.Older.{AllWithin}
 use Rattle.pe_laws.proofs.Current.{was-current, document-in-below}
 use Rattle.pe_laws.proofs.Lists.{both, of-filtered, into-filtered, left-of-filtered, first-is-one, none-without-first}
+use Rattle.pe_laws.proofs.Steps.{told-length, step-older, step-newest}
 use Rattle.pe_laws.proofs.PromptsTold.{AsksFor, told-asks, MakesFor, told-makes}
 
 -- ---- the request of a prompt
-
-step-older : (s : Step) (T : Told) (k : ℕ) → k ≤ length T → step_at (s ∷ T) k ≡ step_at T k
-unfolding step_at newest
-step-older s T k h = let ne : k ≢ suc (length T) = omega arith in rw (not_same k (suc (length T)) ne) refl
-
-step-newest : (s : Step) (T : Told) → step_at (s ∷ T) (suc (length T)) ≡ Some (s, T)
-unfolding step_at newest
-step-newest s T = rw (is_same (suc (length T))) refl
 
 pub prompt-pair-older : (s : Step) (T : Told) (k : ℕ) → k ≤ length T → prompt_pair (s ∷ T) k ≡ prompt_pair T k
 unfolding prompt_pair
@@ -334,11 +327,6 @@ settled-stays s T k h = by_now (is_settled (s ∷ T) k) refl
     by_now : (b : Bool) → is_settled (s ∷ T) k ≡ b → is_settled (s ∷ T) k ≡ true
     by_now true e = e
     by_now false e = let no : is_settled T k ≡ false = settled-older s T k e in cc
-
-told-length : (duration : ℕ) (H : History) → length (told duration H) ≡ length H
-unfolding told
-told-length duration [] = refl
-told-length duration (e ∷ H) = ap suc (told-length duration H)
 
 gone-step : (s : Step) (T : Told) (k : ℕ) → ((p : ℕ) → Asked s T p) → k ≤ length T → is_pending T k ≡ false → is_pending (s ∷ T) k ≡ false
 gone-step s T k asked below gone = by_now (is_pending (s ∷ T) k) refl

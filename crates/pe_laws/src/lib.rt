@@ -1,14 +1,15 @@
-//! Laws that hold of the definitions over the history: each is the contract of a small function.
+//! Laws that hold of the definitions over the history: for each part one record of statements, which is
+//! the contract of a function without a body.
 #![tactic(auto)]
 
+mod all;
 mod documents;
-mod moments;
-mod policy;
-mod prompts;
-mod replies;
+mod permissions;
+mod positions;
 
-pub use documents::{gone_documents_stay_gone, older_documents_stay};
-pub use moments::{changes_are_those_of_due_moments, states_change_where_a_life_ends};
-pub use policy::denied_is_not_enabled;
-pub use prompts::{gone_prompts_stay_gone, older_prompts_stay, pending_prompts_of_a_pair_are_one};
-pub use replies::answers_stay;
+pub use all::history_laws;
+pub use documents::{
+    attributes_laws, current_laws, denials_laws, embedders_laws, making_laws, origins_laws,
+};
+pub use permissions::{changes_laws, prompts_laws, settings_laws};
+pub use positions::{causes_laws, effects_laws, numbering_laws, step_laws};

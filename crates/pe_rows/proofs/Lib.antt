@@ -22,7 +22,6 @@ mod EmbedderHeader
 mod FeaturesOfAPage
 mod FewPrompts
 mod FewStatuses
-mod FirstPage
 mod FrameOfAnotherOrigin
 mod GrantOnce
 mod GreatestDepth
@@ -49,13 +48,7 @@ mod LifeOfASetting
 mod LineTooLong
 mod LongestLine
 mod MessageToAReplacedDocument
-mod MostFrames
-mod MostFramesText
-mod MostMessages
-mod MostMessagesText
 mod MostPages
-mod MostStatuses
-mod MostStatusesText
 mod NearestTheTopFirst
 mod NotOfTheGrammar
 mod Nothing
@@ -71,9 +64,7 @@ mod PageAndCamera
 mod PairKeys
 mod PaymentPage
 mod PromptsOfTwoPages
-mod Quiet
 mod RefusedLineMovesNoClock
-mod Repeated
 mod RequestsOfGoneDocuments
 mod SecureContexts
 mod SettingStartsTheCountAnew

@@ -1,0 +1,18 @@
+use Rattle.pe_laws.proofs.all.history_laws.Goals as goal
+
+pub returns : goal.returns
+returns c = record {
+  steps = c.step_laws.ensures;
+  numbering = c.numbering_laws.ensures;
+  attributes = c.attributes_laws.ensures;
+  making = c.making_laws.ensures;
+  embedders = c.embedders_laws.ensures;
+  current = c.current_laws.ensures;
+  origins = c.origins_laws.ensures;
+  denials = c.denials_laws.ensures;
+  settings = c.settings_laws.ensures;
+  changes = c.changes_laws.ensures;
+  prompts = c.prompts_laws.ensures;
+  causes = c.causes_laws.ensures;
+  effects = c.effects_laws.ensures;
+}

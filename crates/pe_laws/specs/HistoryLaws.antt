@@ -1,0 +1,30 @@
+-- All laws of the definitions over the history, in one record.
+use Rattle.pe_laws.specs.AttributesLaws.{AttributesLaws}
+use Rattle.pe_laws.specs.CausesLaws.{CausesLaws}
+use Rattle.pe_laws.specs.ChangesLaws.{ChangesLaws}
+use Rattle.pe_laws.specs.CurrentLaws.{CurrentLaws}
+use Rattle.pe_laws.specs.DenialsLaws.{DenialsLaws}
+use Rattle.pe_laws.specs.EffectsLaws.{EffectsLaws}
+use Rattle.pe_laws.specs.EmbeddersLaws.{EmbeddersLaws}
+use Rattle.pe_laws.specs.MakingLaws.{MakingLaws}
+use Rattle.pe_laws.specs.NumberingLaws.{NumberingLaws}
+use Rattle.pe_laws.specs.OriginsLaws.{OriginsLaws}
+use Rattle.pe_laws.specs.PromptsLaws.{PromptsLaws}
+use Rattle.pe_laws.specs.SettingsLaws.{SettingsLaws}
+use Rattle.pe_laws.specs.StepLaws.{StepLaws}
+
+-- what holds of every history
+pub record HistoryLaws : Type 0 where
+  pub steps : StepLaws
+  pub numbering : NumberingLaws
+  pub attributes : AttributesLaws
+  pub making : MakingLaws
+  pub embedders : EmbeddersLaws
+  pub current : CurrentLaws
+  pub origins : OriginsLaws
+  pub denials : DenialsLaws
+  pub settings : SettingsLaws
+  pub changes : ChangesLaws
+  pub prompts : PromptsLaws
+  pub causes : CausesLaws
+  pub effects : EffectsLaws

@@ -1,0 +1,28 @@
+//! All laws of the definitions over the history, for the crates above.
+ghost use Rattle.pe_laws.specs.HistoryLaws.{HistoryLaws};
+
+use crate::documents::{
+    attributes_laws, current_laws, denials_laws, embedders_laws, making_laws, origins_laws,
+};
+use crate::permissions::{changes_laws, prompts_laws, settings_laws};
+use crate::positions::{causes_laws, effects_laws, numbering_laws, step_laws};
+
+/// All laws of the definitions over the history. A crate that needs one calls this, and its proofs take
+/// the record of laws as their premise.
+pub fn history_laws()
+    ensures { HistoryLaws }
+{
+    step_laws();
+    numbering_laws();
+    attributes_laws();
+    making_laws();
+    embedders_laws();
+    current_laws();
+    origins_laws();
+    denials_laws();
+    settings_laws();
+    changes_laws();
+    prompts_laws();
+    causes_laws();
+    effects_laws();
+}

@@ -1,0 +1,4 @@
+pub mod AfterEmbargo
+pub mod MostFramesText
+pub mod MostMessagesText
+pub mod MostStatusesText
