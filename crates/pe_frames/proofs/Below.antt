@@ -1,5 +1,5 @@
 -- A frame that another embeds.
-use Rattle.std.proofs.Common.{◌≡◌, ◌≢◌, inl, inr, ℕ, ◌+◌, ◌≤◌, false, cond, List, [], ◌∷◌, ◌++◌, length, length-append, Option, None, Some, is_some, refl, sym, ap, subst, ◌∙◌, arith, true≢false}
+use Rattle.std.proofs.Common.{◌≡◌, ◌≢◌, inl, inr, ℕ, ◌+◌, ◌≤◌, false, cond, List, [], ◌∷◌, length, length-append, Option, None, Some, is_some, refl, sym, ap, subst, ◌∙◌, arith, true≢false}
 use Rattle.std.specs.Prelude.{◌==◌, filter, unwrap_or, IsSomeAnd, IfSome}
 use Rattle.std.specs.Option.{option_map}
 use Rattle.std.proofs.lemmas.Bool.Decides.{nat_tests}
@@ -12,14 +12,9 @@ use Rattle.pe_frames.specs.Forest.{Entry, path, entry_of, node_in, top_of, depth
 use Rattle.pe_frames.specs.Order.{head_of}
 use Rattle.pe_frames.specs.Links.{young}
 use Rattle.pe_frames.specs.Kept.{kept, above_in, entry_in, entries_in, IsForest}
-use Rattle.pe_frames.proofs.Nodes.{same_handle-Decides, same_or_other}
+use Rattle.pe_frames.proofs.Handles.{same_handle-Decides, same_or_other, first-push, last-push}
 use Rattle.pe_frames.proofs.Sizes.{TopRow-live}
-use Rattle.pe_frames.proofs.Pages.{first-push}
 use Rattle.pe_frames.proofs.Lemmas.{some_same}
-
-pub last-push : (ks : List Handle) (k : Handle) → last_of (ks ++ k ∷ []) ≡ Some k
-last-push [] k = refl
-last-push (x ∷ ks) k = ap (λ o. Some (unwrap_or o x)) (last-push ks k)
 
 module _ {D : Type 0} where
   -- the frame of a handle has the handle

@@ -10,7 +10,7 @@ use Rattle.pe_frames.specs.Order.{after, is_child, children, tree_order, handles
 use Rattle.pe_frames.specs.Walk.{visited, is_of_page, changed_where, changed_in, changed_to, changed_under, changed_page}
 use Rattle.pe_frames.proofs.Lemmas.{some_same}
 use Rattle.std.proofs.lemmas.Bool.{cases_Bool, false_from_ne_true}
-use Rattle.pe_frames.proofs.Nodes.{same_handle-Decides, has-push}
+use Rattle.pe_frames.proofs.Handles.{has-push, same_handle-Decides}
 use Rattle.pe_frames.proofs.Below.{entry-handle}
 use Rattle.pe_frames.proofs.Tree.{Each, each-map, IsTree}
 use Rattle.pe_frames.proofs.Under.{handles-once}

@@ -1,5 +1,5 @@
 -- The handles of children, newest first.
-use Rattle.std.proofs.Common.{◌≡◌, ◌⊎◌, inl, inr, Bool, true, false, cond, ◌||◌, List, [], ◌∷◌, ◌++◌, map, Option, None, Some, is_some, refl, sym, ap, ◌∙◌, true≢false}
+use Rattle.std.proofs.Common.{◌≡◌, ◌⊎◌, inl, inr, Bool, true, false, cond, ◌||◌, List, [], ◌∷◌, ◌++◌, map, None, Some, is_some, refl, sym, ap, ◌∙◌, true≢false}
 use Rattle.std.specs.Prelude.{unwrap_or}
 use Rattle.std.proofs.lemmas.List.{map-append}
 use Rattle.pe_arena.specs.declared.handle.Handle.{Handle}
@@ -8,8 +8,7 @@ use Rattle.pe_frames.specs.Forest.{Entry, same_handle, has_handle, last_of, pare
 use Rattle.pe_frames.specs.Order.{is_named, head_of, after, is_child, children, child_handles}
 use Rattle.pe_frames.specs.Links.{before, young}
 use Rattle.pe_frames.specs.Kept.{Kept, node_at, entry_in, entries_in, AreNodes, AreApart, AreOnce}
-use Rattle.pe_frames.proofs.Nodes.{has-push, same_handle-Decides, same_or_other, other-turned}
-use Rattle.pe_frames.proofs.Below.{last-push}
+use Rattle.pe_frames.proofs.Handles.{has-push, other-turned, same_handle-Decides, same_or_other, last-push, named_is}
 use Rattle.std.proofs.lemmas.Bool.{cases_Bool, or_from, or_parts}
 
 -- a handle that is not among these
@@ -104,13 +103,6 @@ after-turned (x ∷ ks) k once =
     after-push (turned ks) k x (once-turned ks once.1)
     ∙ ap (λ o. cond (is_named o k) (Some x) (after k (turned ks))) (last-turned ks)
     ∙ ap (λ o. cond (is_named (head_of ks) k) (Some x) o) (after-turned ks k once.1)
-
-named_is : (o : Option Handle) (p : Handle) → is_named o p ≡ true → o ≡ Some p
-named_is None p e = absurd (true≢false (sym e))
-named_is (Some k) p e = ap Some ((same_handle-Decides k p).0 e)
-
-pub is_named-of : (o : Option Handle) (p : Handle) → o ≡ Some p → is_named o p ≡ true
-is_named-of o p e = ap (λ x. is_named x p) e ∙ (same_handle-Decides p p).1 refl
 
 module _ {D : Type 0} where
   -- the handles of the children are those, turned

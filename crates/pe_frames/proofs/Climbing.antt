@@ -9,7 +9,7 @@ use Rattle.pe_frames.specs.Forest.{Entry, same_handle, has_handle, last_of, path
 use Rattle.pe_frames.specs.Order.{head_of, after, children, child_handles, handles_under}
 use Rattle.pe_frames.specs.Links.{before, siblings}
 use Rattle.pe_frames.specs.Kept.{AreOnce, standing_in}
-use Rattle.pe_frames.proofs.Nodes.{same_handle-Decides, has-append}
+use Rattle.pe_frames.proofs.Handles.{has-append, same_handle-Decides, no_head, no_last}
 use Rattle.std.proofs.lemmas.Bool.{false_from_ne_true}
 use Rattle.pe_frames.proofs.Below.{entry-handle}
 use Rattle.pe_frames.proofs.Children.{after-absent, first-child, later-child}
@@ -20,7 +20,7 @@ use Rattle.pe_frames.proofs.Subtrees.{IsUp, up-of, root-live, under-same, under-
 use Rattle.pe_frames.proofs.Under.{IsUnder, handles-are, handles-live, handles-once, its-own}
 use Rattle.pe_frames.proofs.Walking.{after-split, beyond, beyond-root, beyond-later, beyond-none, next-first, next-none}
 use Rattle.std.proofs.Math.Bool.{or-true}
-use Rattle.pe_frames.proofs.Lemmas.{some_same}
+use Rattle.pe_frames.proofs.Lemmas.{some_same, no_value}
 
 -- what a test of two handles says
 pub differ : (r b : Bool) → r ≡ not b → r ≡ true → b ≡ false
@@ -65,10 +65,6 @@ module _ {D : Type 0} where
       let none : last_of u.entry.above ≡ None = ap (option_and_then parent_of) (sym u.found) ∙ q in
       let other_too : same_handle u.entry.handle root ≡ false = ap (λ j. same_handle j root) (entry-handle es k u.entry u.found) ∙ other in
       true≢false (sym u.under ∙ under-other root u.entry other_too ∙ ap (has_handle root) (no_last u.entry.above none))
-    where
-      no_last : (ks : List Handle) → last_of ks ≡ None → ks ≡ []
-      no_last [] e = refl
-      no_last (x ∷ ks) e = absurd cc
 
   -- what is within the root is live
   pub within-dead : (es : List (Entry D)) (root k : Handle) → IsWithin es root k → entry_of es k ≡ None → ⊥
@@ -213,12 +209,8 @@ module _ {D : Type 0} where
         let r = rises root k here w other at in
         let named : r.up.entry.handle ≡ p = some_same (sym r.parent ∙ q) in
         past-is root p r.top r.up.entry r.whole (ap (entry_of es) (sym named) ∙ r.up.found)
-        ∙ sym (beyond-none es DEPTH_LIMIT tree DEPTH_LIMIT (omega arith) r.top r.own r.entry (its-own es k r.entry r.found) r.up (sym r.later ∙ no_later here.links.later none))
+        ∙ sym (beyond-none es DEPTH_LIMIT tree DEPTH_LIMIT (omega arith) r.top r.own r.entry (its-own es k r.entry r.found) r.up (sym r.later ∙ no_value here.links.later none))
         ∙ sym (past-is root k r.top r.entry r.whole r.found)
-      where
-        no_later : (o : Option Handle) → is_some o ≡ false → o ≡ None
-        no_later None t = refl
-        no_later (Some c) t = absurd (true≢false t)
 
     -- the first child stands behind the frame
     pub follows-first : (root k : Handle) (here : Standing) → IsWithin es root k → StandsAt es k here → is_some here.links.first ≡ true → here.links.first ≡ after k (handles_under es root)
@@ -238,16 +230,12 @@ module _ {D : Type 0} where
     follows-past root k here w at none answer p =
         let i = within root k w in
         let handle = entry-handle es k i.under.entry i.under.found in
-        let first : head_of (child_handles es i.under.entry.handle) ≡ None = ap (λ j. head_of (child_handles es j)) handle ∙ first-child es k ∙ sym (ap (λ x. x.links.first) at.is) ∙ no_first here.links.first none in
+        let first : head_of (child_handles es i.under.entry.handle) ≡ None = ap (λ j. head_of (child_handles es j)) handle ∙ first-child es k ∙ sym (ap (λ x. x.links.first) at.is) ∙ no_value here.links.first none in
         p
         ∙ past-is root k i.top i.under.entry i.whole i.under.found
         ∙ next-none es DEPTH_LIMIT tree DEPTH_LIMIT (omega arith) i.top i.own i.under.entry (its-own es k i.under.entry i.under.found) first
         ∙ ap (λ j. after j (walk DEPTH_LIMIT es i.top)) handle
         ∙ sym (ap (after k) i.whole)
-      where
-        no_first : (o : Option Handle) → is_some o ≡ false → o ≡ None
-        no_first None t = refl
-        no_first (Some c) t = absurd (true≢false t)
 
   -- the handles that were listed so far begin those of the root and what is below it, and this one is their last
   pub record IsListed (es : List (Entry D)) (root at : Handle) (below : List Handle) : Type 0 where
@@ -298,7 +286,3 @@ module _ {D : Type 0} where
       -- where nothing stands behind it, all are listed
       pub listed-all : (answer : Option Handle) → answer ≡ after at (handles_under es root) → answer ≡ None → root ∷ below ≡ handles_under es root
       listed-all answer p q = so_far.listed ∙ ap (λ ks. so_far.front ++ at ∷ ks) (sym (no_head so_far.back (sym behind-listed ∙ sym p ∙ q))) ∙ sym so_far.is
-        where
-          no_head : (ks : List Handle) → head_of ks ≡ None → ks ≡ []
-          no_head [] e = refl
-          no_head (k ∷ ks) e = absurd cc

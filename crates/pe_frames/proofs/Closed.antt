@@ -2,16 +2,16 @@
 use Rattle.std.proofs.Common.{◌≡◌, inl, inr, ℕ, ◌+◌, ◌-◌, ◌≤◌, Bool, true, false, cond, ◌||◌, ◌&&◌, List, [], ◌∷◌, length, Option, None, Some, IsSome, is_some, is_none, refl, sym, ap, subst, ◌∙◌, arith, true≢false}
 use Rattle.std.specs.Prelude.{◌==◌, filter, not, IfSome}
 use Rattle.std.specs.Option.{option_map}
-use Rattle.std.proofs.lemmas.Bool.Decides.{Decides-eqb}
 use Rattle.pe_arena.specs.declared.handle.Handle.{Handle}
 use Rattle.pe_arena.specs.Slots.{Slots, live}
 use Rattle.pe_frames.specs.declared.row.Row.{Row}
 use Rattle.pe_frames.specs.declared.node.Node.{Node}
-use Rattle.pe_frames.specs.Forest.{Entry, first_of, last_of, same_handle, has_handle, entry_of, node_in, parent_of, top_of, is_top, is_under, page_count, IsDead, StayDead}
+use Rattle.pe_frames.specs.Forest.{Entry, first_of, last_of, same_handle, has_handle, entry_of, parent_of, top_of, is_top, is_under, page_count, IsDead, StayDead}
 use Rattle.pe_frames.specs.Order.{is_named, after, handles_under, closed}
 use Rattle.pe_frames.specs.Links.{before, siblings, links_in, at, unlinked, smaller, Rewrites, Removes}
 use Rattle.pe_frames.specs.Kept.{kept, entries_in, HasLinks, Sweeps, forest_in, IsForest}
-use Rattle.pe_frames.proofs.Nodes.{same_handle-Decides, same_or_other, found-live, entries-nodes}
+use Rattle.pe_frames.proofs.Nodes.{found-live, entries-nodes}
+use Rattle.pe_frames.proofs.Handles.{same_handle-Decides, same_or_other, is_named-of, top-none}
 use Rattle.pe_frames.proofs.Pages.{top-found}
 use Rattle.std.proofs.lemmas.Bool.{false_from_ne_true}
 use Rattle.pe_frames.proofs.Sizes.{TopRow-live}
@@ -25,23 +25,12 @@ use Rattle.pe_frames.proofs.Without.{after-itself, before-itself}
 use Rattle.pe_frames.proofs.Within.{goes-under, root-goes, parent-stays, child-goes, top-goes, page-goes, embedder-of}
 use Rattle.pe_frames.proofs.Unlinked.{at-keeps, unlinked-node, unlinked-size, child-listed, siblings-once, after-has, before-has, links-closed}
 use Rattle.pe_frames.proofs.Leaving.{Changes, stayed, Leaves, page-less, pages-same, pages-one, IsCut-left, sized-left, length-left}
-use Rattle.pe_frames.proofs.Lemmas.{if_each, some_same}
-
-named-of : (o : Option Handle) (k : Handle) → o ≡ Some k → is_named o k ≡ true
-named-of o k e = ap (λ x. is_named x k) e ∙ (same_handle-Decides k k).1 refl
+use Rattle.pe_frames.proofs.Lemmas.{if_each, some_same, node_some, some_row}
 
 module _ {D : Type 0} where
   -- the top frame of the page that is left, once the frame is removed
   abbrev pub page_left : Entry D → Option Handle
   page_left e = cond (is_none (parent_of e)) None (Some (top_of e))
-
-  some_row : (o : Option (Row D)) → IsSome (option_map (λ r. r.node) o) → IsSome o
-  some_row None p = p
-  some_row (Some r) p = refl
-
-  node_some : (o : Option (Entry D)) → IsSome o → IsSome (option_map node_in o)
-  node_some None p = p
-  node_some (Some e) p = refl
 
   -- a live frame has a row
   pub row-lives : (s : Slots (Row D)) (order : List Handle) (pages : ℕ) → IsForest s order pages → (k : Handle) → IsSome (entry_of (entries_in (kept s order [])) k) → IsSome (live s k)
@@ -99,13 +88,13 @@ module _ {D : Type 0} where
     earlier-stays : (k : Handle) → after h (siblings (entries_in (kept s order [])) (parent_of e)) ≡ Some k → IsSome (live s k) × (has_handle k (handles_under (entries_in (kept s order [])) h) ≡ false)
     earlier-stays k q =
         let ks = siblings (entries_in (kept s order [])) (parent_of e) in
-        let has = after-has h k ks (named-of (after h ks) k q) in
+        let has = after-has h k ks (is_named-of (after h ks) k q) in
         sibling-stays k has (ap (λ o. is_named o h) (sym q) ∙ after-itself h ks (siblings-once (kept s order []) is.nodes is.apart (parent_of e)) (no-siblings k has))
 
     later-stays : (k : Handle) → before h (siblings (entries_in (kept s order [])) (parent_of e)) ≡ Some k → IsSome (live s k) × (has_handle k (handles_under (entries_in (kept s order [])) h) ≡ false)
     later-stays k q =
         let ks = siblings (entries_in (kept s order [])) (parent_of e) in
-        let has = before-has h k ks (named-of (before h ks) k q) in
+        let has = before-has h k ks (is_named-of (before h ks) k q) in
         sibling-stays k has (ap (λ o. is_named o h) (sym q) ∙ before-itself h ks (siblings-once (kept s order []) is.nodes is.apart (parent_of e)) (no-siblings k has))
 
     -- the top frame of the page stays, where the frame is none
@@ -126,10 +115,6 @@ module _ {D : Type 0} where
     pub pages-gone : page_count (entries_in (kept s order [])) ≡ page_count (filter (λ x. not (is_under h x)) (entries_in (kept s order []))) + cond (is_none (parent_of e)) 1 0
     pages-gone = by_parent (parent_of e) refl
       where
-        top-none : (ks : List Handle) → (length ks == 0) ≡ true → last_of ks ≡ None
-        top-none [] t = refl
-        top-none (k ∷ ks) t = let n = (Decides-eqb (length (k ∷ ks)) 0).0 t in absurd (omega (arith, n))
-
         below-top : (x : Entry D) → entry_of (entries_in (kept s order [])) x.handle ≡ Some x → has_handle x.handle (handles_under (entries_in (kept s order [])) h) ≡ true → is_top x ≡ true → x ≡ e
         below-top x f t top =
             let g = top-goes (entries_in (kept s order [])) (tree-forest s order pages is) h e found x.handle x f (top-none x.above top) in

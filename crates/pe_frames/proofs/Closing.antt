@@ -10,7 +10,7 @@ use Rattle.pe_frames.specs.Forest.{Forest, Entry, same_handle, has_handle, entry
 use Rattle.pe_frames.specs.Order.{handles_under, docs_under, closed}
 use Rattle.pe_frames.specs.Links.{at, unlinked, smaller, docs_at, Rewrites, Removes}
 use Rattle.pe_frames.specs.Kept.{kept, entries_in, standing_in, AreOnce, Sweeps, IsSwept, forest_in, IsForest}
-use Rattle.pe_frames.proofs.Nodes.{same_handle-Decides}
+use Rattle.pe_frames.proofs.Handles.{same_handle-Decides}
 use Rattle.std.proofs.lemmas.Bool.{false_from_ne_true}
 use Rattle.pe_frames.proofs.Standings.{stands-at}
 use Rattle.pe_frames.proofs.Under.{tree-forest, handles-once}

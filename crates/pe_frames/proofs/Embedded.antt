@@ -1,5 +1,5 @@
 -- A frame that another embeds, as it is made step by step.
-use Rattle.std.proofs.Common.{◌≡◌, ◌≢◌, ℕ, ◌+◌, ◌≤◌, Bool, true, false, cond, List, [], ◌∷◌, ◌++◌, Option, None, Some, IsSome, is_some, refl, sym, ap, subst, ◌∙◌, arith, true≢false}
+use Rattle.std.proofs.Common.{◌≡◌, ◌≢◌, ℕ, ◌+◌, ◌≤◌, Bool, true, false, cond, List, [], ◌∷◌, ◌++◌, None, Some, IsSome, is_some, refl, sym, ap, subst, ◌∙◌, arith, true≢false}
 use Rattle.std.specs.Prelude.{IfSome}
 use Rattle.std.specs.Option.{option_map}
 use Rattle.pe_arena.specs.declared.handle.Handle.{Handle}
@@ -11,7 +11,8 @@ use Rattle.pe_frames.specs.Forest.{Gives, StayDead, same_handle, parent_of, top_
 use Rattle.pe_frames.specs.Order.{head_of}
 use Rattle.pe_frames.specs.Links.{Rewrites, at, young, linked}
 use Rattle.pe_frames.specs.Kept.{kept, node_at, entry_in, entries_in, HasLinks, forest_in, IsForest, IsSwept}
-use Rattle.pe_frames.proofs.Nodes.{same_handle-Decides, kept-live, found-live}
+use Rattle.pe_frames.proofs.Nodes.{kept-live, found-live}
+use Rattle.pe_frames.proofs.Handles.{same_handle-Decides}
 use Rattle.pe_frames.proofs.Pages.{entry-absent}
 use Rattle.std.proofs.lemmas.Bool.{false_from_ne_true}
 use Rattle.pe_frames.proofs.Writes.{Rewrites-one, Rewrites-then, still-live}
@@ -19,7 +20,7 @@ use Rattle.pe_frames.proofs.Below.{IsBelow, IsCounted, IsCounted-below, room_is,
 use Rattle.pe_frames.proofs.Kin.{child-absent, childless}
 use Rattle.pe_frames.proofs.Linked.{linked-node, linked-size, grown, grown-node, grown-size, grown-links, links-new, links-old, last-is-child, last-kept}
 use Rattle.pe_frames.proofs.Opened.{Steps, Makes, Makes-steps, each-row, sized-below, IsForest-made, StayDead-made, new-made, Gives-made, entries-made, IsSwept-made}
-use Rattle.pe_frames.proofs.Lemmas.{if_each, some_same}
+use Rattle.pe_frames.proofs.Lemmas.{if_each, some_same, some_row}
 
 module _ {D : Type 0} where
   -- a row was taken in for a frame below a live one
@@ -34,10 +35,6 @@ module _ {D : Type 0} where
     pub taken : Updates s mid h (Some row)
     pub node : row.node ≡ record { frame = frame; parent = Some p; top = place.top; depth = place.depth; doc = doc }
     pub links : row.links ≡ record { first = None; last = None; earlier = place.last; later = None }
-
-  some_row : (o : Option (Row D)) → IsSome (option_map (λ r. r.node) o) → IsSome o
-  some_row None p = p
-  some_row (Some r) p = refl
 
   module _ (s mid : Slots (Row D)) (order : List Handle) (pages : ℕ) (is : IsForest s order pages) (p : Handle) (place : Place) (h : Handle) (frame : ℕ) (doc : D) (row : Row D) (embeds : Embeds s mid order p place h frame doc row) where
     counted : IsCounted s mid (entries_in (kept s order [])) h place.top

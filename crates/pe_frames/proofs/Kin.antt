@@ -1,16 +1,16 @@
 -- Parents and children that live.
-use Rattle.std.proofs.Common.{◌≡◌, ◌≢◌, Bool, true, false, cond, List, [], ◌∷◌, Option, None, Some, IsSome, is_some, refl, sym, ap, ◌∙◌, true≢false}
+use Rattle.std.proofs.Common.{◌≡◌, ◌≢◌, Bool, true, false, cond, List, [], ◌∷◌, Option, None, Some, is_some, refl, sym, ap, ◌∙◌, true≢false}
 use Rattle.std.specs.Option.{option_map}
 use Rattle.pe_arena.specs.declared.handle.Handle.{Handle}
-use Rattle.pe_frames.specs.declared.node.Node.{Node}
 use Rattle.pe_frames.specs.Forest.{Entry, same_handle, has_handle, last_of, parent_of, entry_of, node_in}
 use Rattle.pe_frames.specs.Order.{is_named, head_of, after, is_child, child_handles, next_child_of}
 use Rattle.pe_frames.specs.Links.{before, young, siblings}
 use Rattle.pe_frames.specs.Kept.{Kept, node_at, above_in, entry_in, entries_in, AreNodes, AreApart, AreOnce, standing_in}
-use Rattle.pe_frames.proofs.Nodes.{same_handle-Decides, entries-nodes}
-use Rattle.pe_frames.proofs.Pages.{Above, above-of, nothing, below, entry-absent}
+use Rattle.pe_frames.proofs.Nodes.{entries-nodes}
+use Rattle.pe_frames.proofs.Handles.{same_handle-Decides, last-push}
+use Rattle.pe_frames.proofs.Pages.{Above, above-of, nothing, below, entry-absent, node_absent}
 use Rattle.std.proofs.lemmas.Bool.{false_from_ne_true}
-use Rattle.pe_frames.proofs.Below.{last-push, entry-handle}
+use Rattle.pe_frames.proofs.Below.{entry-handle}
 use Rattle.pe_frames.proofs.Children.{born, first-child, later-child, later-none}
 use Rattle.pe_frames.proofs.Lemmas.{some_same}
 
@@ -41,15 +41,11 @@ module _ {D : Type 0} where
   found_or_not : (o : Option (Entry D)) (t : Entry D) → o ≡ Some t → o ≡ None → ⊥
   found_or_not o t e f = true≢false (sym (ap is_some e) ∙ ap is_some f)
 
-  node_parts : (b : Bool) (o rest : Option (Node D)) → IsSome o → cond b o rest ≡ None → (b ≡ false) × (rest ≡ None)
-  node_parts true o rest p e = absurd (true≢false (sym p ∙ ap is_some e))
-  node_parts false o rest p e = (refl, e)
-
   -- a handle that is not kept has no child
   pub childless : (xs : List (Kept D)) → AreNodes xs → AreApart xs → (p : Handle) → node_at xs p ≡ None → young (entries_in xs) p ≡ []
   childless [] are apart p e = refl
   childless (x ∷ xs) are apart p e =
-      let parts = node_parts (same_handle x.handle p) (Some x.node) (node_at xs p) refl e in
+      let parts = node_absent (same_handle x.handle p) (Some x.node) (node_at xs p) refl e in
       ap (λ b. cond b (x.handle ∷ young (entries_in xs) p) (young (entries_in xs) p)) (other parts.1 (above-of (entries_in xs) x.node.parent))
       ∙ childless xs are.1 apart.1 p parts.1
     where

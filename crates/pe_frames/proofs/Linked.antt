@@ -1,5 +1,5 @@
 -- The links of rows, through the making of a frame.
-use Rattle.std.proofs.Common.{◌≡◌, ◌≢◌, inl, inr, ◌+◌, Bool, true, false, cond, ◌||◌, List, [], ◌∷◌, Option, None, Some, IsSome, is_some, is_none, refl, sym, ap, ◌∙◌, true≢false}
+use Rattle.std.proofs.Common.{◌≡◌, ◌≢◌, inl, inr, ◌+◌, Bool, true, false, cond, List, [], ◌∷◌, Option, None, Some, IsSome, is_some, is_none, refl, sym, ap, ◌∙◌, true≢false}
 use Rattle.pe_arena.specs.declared.handle.Handle.{Handle}
 use Rattle.pe_frames.specs.declared.row.Row.{Row}
 use Rattle.pe_frames.specs.declared.row.Links.{Links}
@@ -8,14 +8,10 @@ use Rattle.pe_frames.specs.Forest.{Entry, same_handle, has_handle, last_of, pare
 use Rattle.pe_frames.specs.Order.{is_named, head_of, after}
 use Rattle.pe_frames.specs.Links.{before, links_by, young, siblings, links_in, at, with_first, with_last, with_later, linked}
 use Rattle.pe_frames.specs.Kept.{Kept, node_at, entries_in, AreNodes, AreApart, HasLinks}
-use Rattle.pe_frames.proofs.Nodes.{same_handle-Decides, same_or_other}
+use Rattle.pe_frames.proofs.Handles.{same_handle-Decides, same_or_other, is_named-of, head-has, same-itself}
 use Rattle.std.proofs.lemmas.Bool.{false_from_ne_true}
-use Rattle.pe_frames.proofs.Children.{born, head-absent, before-absent, is_named-of}
+use Rattle.pe_frames.proofs.Children.{born, head-absent, before-absent}
 use Rattle.pe_frames.proofs.Lemmas.{some_same}
-
-head-has : (j : Handle) (ks : List Handle) → is_named (head_of ks) j ≡ true → has_handle j ks ≡ true
-head-has j [] e = absurd (true≢false (sym e))
-head-has j (k ∷ ks) e = ap (λ b. b || has_handle j ks) e
 
 -- the first child, once another is put last
 first-grown : (p h j : Handle) (ks : List Handle) → same_handle p j ≡ true → cond (is_named (cond (is_none (head_of ks)) (Some p) None) j) (Some h) (last_of ks) ≡ last_of (h ∷ ks)
@@ -124,14 +120,11 @@ module _ {D : Type 0} where
           unnamed : is_named (head_of (young es p)) e.handle ≡ false
           unnamed = head-absent e.handle (young es p) absent
 
-          itself : (q : Handle) → same_handle q q ≡ true
-          itself q = (same_handle-Decides q q).1 refl
-
           behind : links_in (e ∷ es) e.handle (Some p) ≡ record { first = None; last = None; earlier = head_of (young es p); later = None }
           behind =
               ap (λ ks. links_by ks (young (e ∷ es) p) e.handle) (young-below e.handle ∙ ap (λ b. cond b (e.handle ∷ young es e.handle) (young es e.handle)) apart ∙ own)
-              ∙ ap (λ ks. links_by [] ks e.handle) (young-below p ∙ ap (λ b. cond b (e.handle ∷ young es p) (young es p)) (itself p))
-              ∙ ap (λ b. record { first = None; last = None; earlier = cond b (head_of (young es p)) (after e.handle (young es p)); later = cond (is_named (head_of (young es p)) e.handle) (Some e.handle) (before e.handle (young es p)) }) (itself e.handle)
+              ∙ ap (λ ks. links_by [] ks e.handle) (young-below p ∙ ap (λ b. cond b (e.handle ∷ young es p) (young es p)) (same-itself p))
+              ∙ ap (λ b. record { first = None; last = None; earlier = cond b (head_of (young es p)) (after e.handle (young es p)); later = cond (is_named (head_of (young es p)) e.handle) (Some e.handle) (before e.handle (young es p)) }) (same-itself e.handle)
               ∙ ap (λ b. record { first = None; last = None; earlier = head_of (young es p); later = cond b (Some e.handle) (before e.handle (young es p)) }) unnamed
               ∙ ap (λ o. record { first = None; last = None; earlier = head_of (young es p); later = o }) (before-absent e.handle (young es p) absent)
 

@@ -1,8 +1,7 @@
 -- A frame that is navigated: it shows another document, and those below it go.
 use Rattle.std.proofs.Common.{◌≡◌, inl, inr, ℕ, ◌+◌, ◌-◌, ◌≤◌, Bool, true, false, cond, ◌||◌, List, [], ◌∷◌, map, length, Option, None, Some, IsSome, is_some, refl, sym, ap, subst, ◌∙◌, arith, true≢false}
-use Rattle.std.specs.Prelude.{◌==◌, filter, not, IfSome}
+use Rattle.std.specs.Prelude.{filter, not, IfSome}
 use Rattle.std.specs.Option.{option_map}
-use Rattle.std.proofs.lemmas.Bool.Decides.{Decides-eqb}
 use Rattle.pe_arena.specs.declared.handle.Handle.{Handle}
 use Rattle.pe_arena.specs.Slots.{Slots, live, with_value, Updates}
 use Rattle.pe_frames.specs.declared.row.Row.{Row}
@@ -13,7 +12,8 @@ use Rattle.pe_frames.specs.Forest.{Forest, Entry, last_of, same_handle, has_hand
 use Rattle.pe_frames.specs.Order.{is_named, handles_under, docs_under, navigated}
 use Rattle.pe_frames.specs.Links.{links_by, young, siblings, at, smaller, renewed, doc_before, docs_at, SameMarks, Rewrites, Removes}
 use Rattle.pe_frames.specs.Kept.{kept, entries_in, standing_in, HasLinks, Sweeps, IsSwept, forest_in, IsForest}
-use Rattle.pe_frames.proofs.Nodes.{same_handle-Decides, same_or_other, found-live, other-turned}
+use Rattle.pe_frames.proofs.Nodes.{found-live}
+use Rattle.pe_frames.proofs.Handles.{other-turned, same_handle-Decides, same_or_other, top-none}
 use Rattle.pe_frames.proofs.Pages.{top-found}
 use Rattle.std.proofs.lemmas.Bool.{false_from_ne_true, or_parts}
 use Rattle.pe_frames.proofs.Sizes.{TopRow-live}
@@ -30,10 +30,6 @@ use Rattle.pe_frames.proofs.Closed.{row-lives}
 use Rattle.pe_frames.proofs.Documents.{docs-same, docs-below}
 use Rattle.pe_frames.proofs.Closing.{LeavesAt, root-once, once-left}
 use Rattle.pe_frames.proofs.Lemmas.{some_same}
-
-top-none : (ks : List Handle) → (length ks == 0) ≡ true → last_of ks ≡ None
-top-none [] t = refl
-top-none (k ∷ ks) t = let n = (Decides-eqb (length (k ∷ ks)) 0).0 t in absurd (omega (arith, n))
 
 module _ {D : Type 0} where
   -- the row with another document

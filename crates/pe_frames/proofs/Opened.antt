@@ -11,7 +11,8 @@ use Rattle.pe_frames.specs.Kept.{Kept, joined, kept, entry_in, entries_in, shown
 use Rattle.pe_frames.specs.Links.{Rewrites}
 use Rattle.pe_frames.proofs.Writes.{different, mark-kept, slots-kept}
 use Rattle.pe_frames.proofs.Pages.{entry-absent, page-empty, page-more, page-same}
-use Rattle.pe_frames.proofs.Nodes.{has-push, kept-live, same_handle-Decides, same_or_other}
+use Rattle.pe_frames.proofs.Nodes.{kept-live}
+use Rattle.pe_frames.proofs.Handles.{has-push, same_handle-Decides, same_or_other}
 use Rattle.std.proofs.lemmas.Bool.{false_from_ne_true, or_cases, or_parts}
 use Rattle.std.proofs.Math.Bool.{or-true}
 use Rattle.pe_frames.proofs.Lemmas.{some_same}

@@ -9,7 +9,8 @@ use Rattle.pe_frames.specs.declared.node.Node.{Node}
 use Rattle.pe_frames.specs.Forest.{entry_of, Gives, StayDead, same_handle}
 use Rattle.pe_frames.specs.Links.{at, links_in}
 use Rattle.pe_frames.specs.Kept.{kept, node_at, entry_in, entries_in, HasLinks, forest_in, IsForest, IsSwept}
-use Rattle.pe_frames.proofs.Nodes.{same_handle-Decides, kept-live}
+use Rattle.pe_frames.proofs.Nodes.{kept-live}
+use Rattle.pe_frames.proofs.Handles.{same_handle-Decides}
 use Rattle.std.proofs.lemmas.Bool.{false_from_ne_true}
 use Rattle.pe_frames.proofs.Writes.{Rewrites-one}
 use Rattle.pe_frames.proofs.Kin.{childless}

@@ -11,9 +11,10 @@ use Rattle.pe_frames.specs.Forest.{Entry, same_handle, has_handle, last_of, entr
 use Rattle.pe_frames.specs.Order.{is_named, head_of, after, is_child, handles_under}
 use Rattle.pe_frames.specs.Links.{before, links_by, young, siblings, links_in, at, with_first, with_last, with_earlier, with_later, unlinked}
 use Rattle.pe_frames.specs.Kept.{Kept, entries_in, AreNodes, AreApart, AreOnce, HasLinks}
-use Rattle.pe_frames.proofs.Nodes.{same_handle-Decides, entries-nodes, other-turned}
+use Rattle.pe_frames.proofs.Nodes.{entries-nodes}
+use Rattle.pe_frames.proofs.Handles.{other-turned, same_handle-Decides, is_named-of, head-has, named_is}
 use Rattle.std.proofs.lemmas.Bool.{false_from_ne_true, cases_Bool}
-use Rattle.pe_frames.proofs.Children.{born, before-absent, after-absent, is_named-of}
+use Rattle.pe_frames.proofs.Children.{born, before-absent, after-absent}
 use Rattle.pe_frames.proofs.Kin.{children-once}
 use Rattle.pe_frames.proofs.Tree.{Each, IsTree}
 use Rattle.pe_frames.proofs.Cuts.{each-live}
@@ -21,14 +22,6 @@ use Rattle.pe_frames.proofs.Without.{without, without-absent, head-without, last
 use Rattle.pe_frames.proofs.Within.{young-stays, child-goes, children-less, goes-under}
 use Rattle.std.proofs.Math.Bool.{or-true}
 use Rattle.pe_frames.proofs.Lemmas.{some_same}
-
-named_is : (o : Option Handle) (p : Handle) → is_named o p ≡ true → o ≡ Some p
-named_is None p e = absurd (true≢false (sym e))
-named_is (Some k) p e = ap Some ((same_handle-Decides k p).0 e)
-
-head-has : (j : Handle) (ks : List Handle) → is_named (head_of ks) j ≡ true → has_handle j ks ≡ true
-head-has j [] e = absurd (true≢false (sym e))
-head-has j (k ∷ ks) e = ap (λ b. b || has_handle j ks) e
 
 pub before-has : (h k : Handle) (ks : List Handle) → is_named (before h ks) k ≡ true → has_handle k ks ≡ true
 before-has h k [] e = absurd (true≢false (sym e))

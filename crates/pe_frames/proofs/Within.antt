@@ -1,13 +1,13 @@
 -- The frames within a subtree: the root and those below it.
-use Rattle.std.proofs.Common.{◌≡◌, inl, inr, Bool, true, false, cond, ◌||◌, List, [], ◌∷◌, ◌++◌, length, length-append, Option, None, Some, refl, sym, ap, subst, ◌∙◌, arith, true≢false}
+use Rattle.std.proofs.Common.{◌≡◌, inl, inr, Bool, true, false, cond, ◌||◌, List, [], ◌∷◌, ◌++◌, length, length-append, None, Some, refl, sym, ap, subst, ◌∙◌, arith, true≢false}
 use Rattle.std.specs.Prelude.{filter, not}
 use Rattle.pe_base.specs.declared.limits.TheConstants.{DEPTH_LIMIT}
 use Rattle.pe_arena.specs.declared.handle.Handle.{Handle}
 use Rattle.pe_frames.specs.Forest.{Entry, path, same_handle, has_handle, first_of, entry_of, is_under, parent_of, top_of}
-use Rattle.pe_frames.specs.Order.{is_named, is_child, handles_under}
+use Rattle.pe_frames.specs.Order.{is_child, handles_under}
 use Rattle.pe_frames.specs.Links.{young}
 use Rattle.pe_frames.specs.Kept.{Kept, entries_in, AreNodes, AreApart}
-use Rattle.pe_frames.proofs.Nodes.{same_handle-Decides, same_or_other, other-turned}
+use Rattle.pe_frames.proofs.Handles.{other-turned, same_handle-Decides, same_or_other, first-push, named_is}
 use Rattle.std.proofs.lemmas.Bool.{false_from_ne_true, cases_Bool}
 use Rattle.pe_frames.proofs.Below.{entry-handle}
 use Rattle.pe_frames.proofs.Upward.{above-none, under-parent, under-top, under-itself}
@@ -16,7 +16,6 @@ use Rattle.pe_frames.proofs.TreeOrder.{walk-under}
 use Rattle.pe_frames.proofs.Under.{handles-live, handles-all, handles-are, its-own}
 use Rattle.pe_frames.proofs.Cuts.{each-live, filter-agree}
 use Rattle.pe_frames.proofs.Without.{without}
-use Rattle.pe_frames.proofs.Pages.{first-push}
 use Rattle.pe_frames.proofs.Lemmas.{some_same}
 
 filter-all : {A : Type 0} (p : A → Bool) (xs : List A) → Each (λ x. p x ≡ true) xs → filter p xs ≡ xs
@@ -131,11 +130,7 @@ module _ {D : Type 0} where
       each-child : (P : Handle → Type 0) (q : Handle) → ((x : Entry D) → entry_of es x.handle ≡ Some x → parent_of x ≡ Some q → P x.handle) → Each P (young es q)
       each-child P q all = young-each P es q
           (subst (Each (λ x. is_child q x ≡ true → P x.handle)) (sym kept_as)
-          (each-live (λ x. is_child q x ≡ true → P x.handle) xs are apart (λ x f c. all x (subst (λ fs. entry_of fs x.handle ≡ Some x) (sym kept_as) f) (named (parent_of x) q c))))
-        where
-          named : (o : Option Handle) (p : Handle) → is_named o p ≡ true → o ≡ Some p
-          named None p c = absurd (true≢false (sym c))
-          named (Some k) p c = ap Some ((same_handle-Decides k p).0 c)
+          (each-live (λ x. is_child q x ≡ true → P x.handle) xs are apart (λ x f c. all x (subst (λ fs. entry_of fs x.handle ≡ Some x) (sym kept_as) f) (named_is (parent_of x) q c))))
 
       -- of the children of a frame that stays, the root alone goes
       pub children-less : (q : Handle) → has_handle q (handles_under es h) ≡ false → filter (λ k. not (has_handle k (handles_under es h))) (young es q) ≡ without h (young es q)

@@ -9,7 +9,7 @@ use Rattle.pe_arena.specs.Slots.{Slot, Slots, live, mark, with_value, Updates}
 use Rattle.pe_frames.specs.declared.row.Row.{Row}
 use Rattle.pe_frames.specs.Forest.{same_handle}
 use Rattle.pe_frames.specs.Links.{SameMarks, Rewrites, at}
-use Rattle.pe_frames.proofs.Nodes.{same_handle-Decides, same_or_other}
+use Rattle.pe_frames.proofs.Handles.{same_handle-Decides, same_or_other}
 
 pub map-set_same : {A B : Type 0} (f : A → B) (xs : List A) (i : ℕ) (y d : A) → f y ≡ f (get_or xs i d) → map f (set xs i y) ≡ map f xs
 map-set_same f [] i y d e = refl

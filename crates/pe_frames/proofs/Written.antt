@@ -12,7 +12,7 @@ use Rattle.pe_frames.specs.Order.{is_child}
 use Rattle.pe_frames.specs.Kept.{above_in, Kept, joined, kept, shown, node_at, entry_in, entries_in, AreNodes, AreApart, forest_in, IsForest, IsSwept}
 use Rattle.pe_frames.specs.Links.{links_by, young, links_in}
 use Rattle.pe_frames.proofs.Writes.{map-set_same, mark-kept, SameMarks-write}
-use Rattle.pe_frames.proofs.Nodes.{same_handle-Decides, same_or_other}
+use Rattle.pe_frames.proofs.Handles.{same_handle-Decides, same_or_other}
 use Rattle.pe_frames.proofs.Lemmas.{some_same}
 
 module _ {D : Type 0} (h : Handle) (w : D) where

@@ -1,5 +1,5 @@
 //! The tree of frames.
-ghost use Rattle.std.specs.Prelude.{◌≡◌, ◌≢◌, ◌⊎◌, ◌↔◌, ◌+◌, ◌<◌, ◌≤◌, ◌-◌, ◌^◌, ℕ, IsSome, IsTrue, IfSome, IsSomeAnd, [], ◌∷◌, IfOk, IfErr, OnOk, OnErr, None, Err, option_copied, vec_len, vec_capacity};
+ghost use Rattle.std.specs.Prelude.{◌≡◌, ◌≢◌, ◌⊎◌, ◌↔◌, ◌+◌, ◌<◌, ◌≤◌, ◌-◌, ◌^◌, IsSome, IsTrue, IfSome, IsSomeAnd, [], ◌∷◌, IfOk, IfErr, OnOk, OnErr, None, Err, option_copied, vec_len, vec_capacity};
 ghost use Rattle.std.specs.Option.{option_map, option_and_then, option_copied_mut};
 ghost use Rattle.std.specs.Borrow.{sem};
 ghost use Rattle.pe_frames.specs.Forest.{entry_of, node_of, doc_of, parent_of, top_of, page_count, page_size, mark_of, path_of, depth_of, refusal, embed_fault, opened, IsDead, Gives, StayDead};
