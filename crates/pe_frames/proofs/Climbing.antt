@@ -4,11 +4,11 @@ use Rattle.std.specs.Prelude.{unwrap_or, IsSomeAnd, IsTrue}
 use Rattle.std.specs.Option.{option_and_then, option_map}
 use Rattle.pe_base.specs.declared.limits.TheConstants.{DEPTH_LIMIT}
 use Rattle.pe_arena.specs.declared.handle.Handle.{Handle}
-use Rattle.pe_frames.specs.declared.row.Standing.{Standing}
+use Rattle.pe_frames.specs.declared.row.FramePosition.{FramePosition}
 use Rattle.pe_frames.specs.Forest.{Entry, same_handle, has_handle, last_of, path, path_of, parent_of, entry_of, is_under}
-use Rattle.pe_frames.specs.Order.{head_of, after, children, child_handles, handles_under}
-use Rattle.pe_frames.specs.Links.{before, siblings}
-use Rattle.pe_frames.specs.Kept.{AreOnce, standing_in}
+use Rattle.pe_frames.specs.Order.{head_of, after, children, child_handles, handles_under, AreOnce}
+use Rattle.pe_frames.specs.Neighbours.{before, siblings}
+use Rattle.pe_frames.specs.Kept.{standing_in}
 use Rattle.pe_frames.proofs.Handles.{has-append, same_handle-Decides, no_head, no_last}
 use Rattle.std.proofs.lemmas.Bool.{false_from_ne_true}
 use Rattle.pe_frames.proofs.Below.{entry-handle}
@@ -71,7 +71,7 @@ module _ {D : Type 0} where
   within-dead es root k w q = let u = within-entry es root k w in true≢false (sym (ap is_some u.found) ∙ ap is_some q)
 
   -- the parent of where a frame stands
-  pub parent-stands : (es : List (Entry D)) (k : Handle) (here : Standing) → StandsAt es k here → option_and_then parent_of (entry_of es k) ≡ here.parent
+  pub parent-stands : (es : List (Entry D)) (k : Handle) (here : FramePosition) → StandsAt es k here → option_and_then parent_of (entry_of es k) ≡ here.parent
   parent-stands es k here at = ap (option_and_then parent_of) at.found ∙ sym (ap (λ x. x.parent) at.is)
 
   -- a live frame and its parent
@@ -165,7 +165,7 @@ module _ {D : Type 0} where
     links-later k p e q = ap (λ o. before k (siblings es o)) q ∙ sym (later-child es p k (tree.single p))
 
     -- the way up from where a frame stands
-    record Rises (root k : Handle) (here : Standing) : Type 0 where
+    record Rises (root k : Handle) (here : FramePosition) : Type 0 where
       top : Entry D
       own : entry_of es top.handle ≡ Some top
       whole : handles_under es root ≡ walk DEPTH_LIMIT es top
@@ -175,7 +175,7 @@ module _ {D : Type 0} where
       parent : here.parent ≡ Some up.entry.handle
       later : here.links.later ≡ after entry.handle (child_handles es up.entry.handle)
 
-    rises : (root k : Handle) (here : Standing) → IsWithin es root k → same_handle k root ≡ false → StandsAt es k here → Rises root k here
+    rises : (root k : Handle) (here : FramePosition) → IsWithin es root k → same_handle k root ≡ false → StandsAt es k here → Rises root k here
     rises root k here w other at =
         let i = within root k w in
         let same : at.entry ≡ i.under.entry = some_same (sym at.found ∙ i.under.found) in
@@ -194,7 +194,7 @@ module _ {D : Type 0} where
         }
 
     -- the later sibling is past the frame
-    pub past-later : (root k : Handle) (here : Standing) → IsWithin es root k → same_handle k root ≡ false → StandsAt es k here → is_some here.links.later ≡ true → here.links.later ≡ past_of es root k
+    pub past-later : (root k : Handle) (here : FramePosition) → IsWithin es root k → same_handle k root ≡ false → StandsAt es k here → is_some here.links.later ≡ true → here.links.later ≡ past_of es root k
     past-later root k here w other at some = by_later here.links.later refl some
       where
         by_later : (o : Option Handle) → here.links.later ≡ o → is_some o ≡ true → o ≡ past_of es root k
@@ -204,7 +204,7 @@ module _ {D : Type 0} where
             sym (past-is root k r.top r.entry r.whole r.found ∙ beyond-later es DEPTH_LIMIT tree DEPTH_LIMIT (omega arith) r.top r.own r.entry (its-own es k r.entry r.found) r.up c (sym r.later ∙ q))
 
     -- where there is none, what is past its parent
-    pub past-none : (root k p : Handle) (here : Standing) → IsWithin es root k → same_handle k root ≡ false → StandsAt es k here → is_some here.links.later ≡ false → here.parent ≡ Some p → past_of es root p ≡ past_of es root k
+    pub past-none : (root k p : Handle) (here : FramePosition) → IsWithin es root k → same_handle k root ≡ false → StandsAt es k here → is_some here.links.later ≡ false → here.parent ≡ Some p → past_of es root p ≡ past_of es root k
     past-none root k p here w other at none q =
         let r = rises root k here w other at in
         let named : r.up.entry.handle ≡ p = some_same (sym r.parent ∙ q) in
@@ -213,7 +213,7 @@ module _ {D : Type 0} where
         ∙ sym (past-is root k r.top r.entry r.whole r.found)
 
     -- the first child stands behind the frame
-    pub follows-first : (root k : Handle) (here : Standing) → IsWithin es root k → StandsAt es k here → is_some here.links.first ≡ true → here.links.first ≡ after k (handles_under es root)
+    pub follows-first : (root k : Handle) (here : FramePosition) → IsWithin es root k → StandsAt es k here → is_some here.links.first ≡ true → here.links.first ≡ after k (handles_under es root)
     follows-first root k here w at some = by_first here.links.first refl some
       where
         by_first : (o : Option Handle) → here.links.first ≡ o → is_some o ≡ true → o ≡ after k (handles_under es root)
@@ -226,7 +226,7 @@ module _ {D : Type 0} where
             ∙ next-first es DEPTH_LIMIT tree DEPTH_LIMIT (omega arith) i.top i.own i.under.entry (its-own es k i.under.entry i.under.found) i.under.under c first)
 
     -- where there is none, what is past the frame
-    pub follows-past : (root k : Handle) (here : Standing) → IsWithin es root k → StandsAt es k here → is_some here.links.first ≡ false → (answer : Option Handle) → answer ≡ past_of es root k → answer ≡ after k (handles_under es root)
+    pub follows-past : (root k : Handle) (here : FramePosition) → IsWithin es root k → StandsAt es k here → is_some here.links.first ≡ false → (answer : Option Handle) → answer ≡ past_of es root k → answer ≡ after k (handles_under es root)
     follows-past root k here w at none answer p =
         let i = within root k w in
         let handle = entry-handle es k i.under.entry i.under.found in

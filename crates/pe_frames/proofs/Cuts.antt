@@ -8,8 +8,9 @@ use Rattle.pe_arena.specs.Slots.{Slot, Slots, live, mark}
 use Rattle.pe_frames.specs.declared.row.Row.{Row}
 use Rattle.pe_frames.specs.declared.node.Node.{Node}
 use Rattle.pe_frames.specs.Forest.{Entry, path, same_handle, has_handle, entry_of, node_in, parent_of, page_count, mark_of, IsDead, StayDead}
-use Rattle.pe_frames.specs.Links.{SameMarks}
-use Rattle.pe_frames.specs.Kept.{Kept, joined, kept, shown, node_at, above_in, entry_in, entries_in, AreNodes, AreApart, AreOnce, IsSized, HasLinks, Sweeps, forest_in, IsForest}
+use Rattle.pe_frames.specs.Neighbours.{SameMarks}
+use Rattle.pe_frames.specs.Order.{AreOnce}
+use Rattle.pe_frames.specs.Kept.{Kept, joined, kept, shown, node_at, above_in, entry_in, entries_in, AreNodes, AreApart, IsSized, HasLinks, Sweeps, forest_in, IsForest}
 use Rattle.pe_frames.proofs.Nodes.{entries-nodes, found-live}
 use Rattle.pe_frames.proofs.Handles.{other-turned, same_handle-Decides, same_or_other}
 use Rattle.pe_frames.proofs.Pages.{entry-absent}

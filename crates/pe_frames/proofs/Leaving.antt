@@ -7,9 +7,9 @@ use Rattle.pe_arena.specs.Slots.{Slots, live}
 use Rattle.pe_frames.specs.declared.row.Row.{Row}
 use Rattle.pe_frames.specs.declared.node.Node.{Node}
 use Rattle.pe_frames.specs.Forest.{Entry, same_handle, has_handle, entry_of, parent_of, top_of, is_top, page_size, page_count}
-use Rattle.pe_frames.specs.Order.{is_named}
-use Rattle.pe_frames.specs.Links.{SameMarks}
-use Rattle.pe_frames.specs.Kept.{kept, shown, entries_in, AreOnce, IsSized, IsForest}
+use Rattle.pe_frames.specs.Order.{is_named, AreOnce}
+use Rattle.pe_frames.specs.Neighbours.{SameMarks}
+use Rattle.pe_frames.specs.Kept.{kept, shown, entries_in, IsSized, IsForest}
 use Rattle.pe_frames.proofs.Handles.{same_handle-Decides}
 use Rattle.pe_frames.proofs.Cuts.{IsCut, count-less, length-entries, length-cut, Sweeps-none}
 use Rattle.pe_frames.proofs.Lemmas.{not_not, some_same, all-pass}

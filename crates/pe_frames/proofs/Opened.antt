@@ -8,7 +8,7 @@ use Rattle.pe_frames.specs.declared.row.Row.{Row}
 use Rattle.pe_frames.specs.declared.node.Node.{Node}
 use Rattle.pe_frames.specs.Forest.{Entry, top_of, same_handle, has_handle, entry_of, node_in, mark_of, page_count, Gives, StayDead}
 use Rattle.pe_frames.specs.Kept.{Kept, joined, kept, entry_in, entries_in, shown, node_at, AreNodes, AreApart, IsSized, HasLinks, forest_in, IsForest, IsSwept}
-use Rattle.pe_frames.specs.Links.{Rewrites}
+use Rattle.pe_frames.specs.Neighbours.{Rewrites}
 use Rattle.pe_frames.proofs.Writes.{different, mark-kept, slots-kept}
 use Rattle.pe_frames.proofs.Pages.{entry-absent, page-empty, page-more, page-same}
 use Rattle.pe_frames.proofs.Nodes.{kept-live}

@@ -3,9 +3,9 @@ use Rattle.std.proofs.Common.{◌≡◌, inl, inr, ℕ, ◌≤◌, Bool, true, f
 use Rattle.std.specs.Prelude.{⊤}
 use Rattle.pe_arena.specs.declared.handle.Handle.{Handle}
 use Rattle.pe_frames.specs.Forest.{Entry, same_handle, last_of, path, parent_of, entry_of}
-use Rattle.pe_frames.specs.Order.{is_child, children, child_handles}
-use Rattle.pe_frames.specs.Links.{young}
-use Rattle.pe_frames.specs.Kept.{Kept, node_at, above_in, entry_in, entries_in, AreNodes, AreApart, AreOnce}
+use Rattle.pe_frames.specs.Order.{is_child, children, child_handles, AreOnce}
+use Rattle.pe_frames.specs.Neighbours.{children_newest_first}
+use Rattle.pe_frames.specs.Kept.{Kept, node_at, above_in, entry_in, entries_in, AreNodes, AreApart}
 use Rattle.pe_frames.proofs.Handles.{same_handle-Decides, same_or_other, last-push, is_named-of, named_is}
 use Rattle.pe_frames.proofs.Pages.{Above, above-of, nothing, below, entry-absent}
 use Rattle.std.proofs.lemmas.Bool.{false_from_ne_true}
@@ -51,7 +51,7 @@ module _ {D : Type 0} where
     pub listed : (p : Handle) (c : Entry D) → IsChild es p c → Splits (children es p) c
     pub parent : (p : Handle) (c : Entry D) → IsChild es p c → IsParent es p c
     pub once : (p : Handle) → AreOnce (child_handles es p)
-    pub single : (p : Handle) → AreOnce (young es p)
+    pub single : (p : Handle) → AreOnce (children_newest_first es p)
     pub shallow : (c : Entry D) → entry_of es c.handle ≡ Some c → length c.above ≤ levels
 
   -- a frame keeps its place behind a newer one
@@ -136,7 +136,7 @@ module _ {D : Type 0} where
     born = born-of xs are apart;
     listed = listed-of xs;
     parent = parent-of xs are apart;
-    once = λ p. subst AreOnce (sym (children-turned (entries_in xs) p)) (once-turned (young (entries_in xs) p) (children-once xs are apart p));
+    once = λ p. subst AreOnce (sym (children-turned (entries_in xs) p)) (once-turned (children_newest_first (entries_in xs) p) (children-once xs are apart p));
     single = children-once xs are apart;
     shallow = shallow;
   }

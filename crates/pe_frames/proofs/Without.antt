@@ -4,9 +4,8 @@ use Rattle.std.specs.Prelude.{filter, not, unwrap_or}
 use Rattle.std.proofs.lemmas.List.{append-nil}
 use Rattle.pe_arena.specs.declared.handle.Handle.{Handle}
 use Rattle.pe_frames.specs.Forest.{same_handle, has_handle, last_of}
-use Rattle.pe_frames.specs.Order.{is_named, head_of, after}
-use Rattle.pe_frames.specs.Links.{before}
-use Rattle.pe_frames.specs.Kept.{AreOnce}
+use Rattle.pe_frames.specs.Order.{is_named, head_of, after, AreOnce}
+use Rattle.pe_frames.specs.Neighbours.{before}
 use Rattle.pe_frames.proofs.Handles.{has-append, other-turned, same_handle-Decides, same_or_other, same-itself}
 use Rattle.std.proofs.lemmas.Bool.{cases_Bool, or_parts}
 use Rattle.pe_frames.proofs.Children.{head-absent, before-absent}
