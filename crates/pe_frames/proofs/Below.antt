@@ -1,5 +1,5 @@
 -- A frame that another embeds.
-use Rattle.std.proofs.Common.{◌≡◌, ◌≢◌, inl, inr, ℕ, ◌+◌, ◌≤◌, false, cond, List, [], ◌∷◌, ◌++◌, length, length-append, Option, None, Some, is_some, refl, sym, ap, subst, ◌∙◌, arith, true≢false}
+use Rattle.std.proofs.Common.{◌≡◌, ◌≢◌, inl, inr, ℕ, ◌+◌, ◌≤◌, false, cond, List, [], ◌∷◌, length, length-append, Option, None, Some, is_some, refl, sym, ap, subst, ◌∙◌, arith, true≢false}
 use Rattle.std.specs.Prelude.{◌==◌, filter, unwrap_or, IsSomeAnd, IfSome}
 use Rattle.std.specs.Option.{option_map}
 use Rattle.std.proofs.lemmas.Bool.Decides.{nat_tests}
@@ -7,19 +7,14 @@ use Rattle.pe_arena.specs.declared.handle.Handle.{Handle}
 use Rattle.pe_arena.specs.Slots.{Slots, live, Updates}
 use Rattle.pe_frames.specs.declared.row.Row.{Row}
 use Rattle.pe_frames.specs.declared.node.Node.{Node}
-use Rattle.pe_frames.specs.declared.node.Place.{Place}
+use Rattle.pe_frames.specs.declared.node.NewPosition.{NewPosition}
 use Rattle.pe_frames.specs.Forest.{Entry, path, entry_of, node_in, top_of, depth_of, is_top, first_of, last_of, page_size, page_count}
 use Rattle.pe_frames.specs.Order.{head_of}
-use Rattle.pe_frames.specs.Links.{young}
+use Rattle.pe_frames.specs.Neighbours.{children_newest_first}
 use Rattle.pe_frames.specs.Kept.{kept, above_in, entry_in, entries_in, IsForest}
-use Rattle.pe_frames.proofs.Nodes.{same_handle-Decides, same_or_other}
+use Rattle.pe_frames.proofs.Handles.{same_handle-Decides, same_or_other, first-push, last-push}
 use Rattle.pe_frames.proofs.Sizes.{TopRow-live}
-use Rattle.pe_frames.proofs.Pages.{first-push}
 use Rattle.pe_frames.proofs.Lemmas.{some_same}
-
-pub last-push : (ks : List Handle) (k : Handle) → last_of (ks ++ k ∷ []) ≡ Some k
-last-push [] k = refl
-last-push (x ∷ ks) k = ap (λ o. Some (unwrap_or o x)) (last-push ks k)
 
 module _ {D : Type 0} where
   -- the frame of a handle has the handle
@@ -33,19 +28,19 @@ module _ {D : Type 0} where
   ]
 
   -- the place below a live frame
-  pub record IsBelow (es : List (Entry D)) (p : Handle) (place : Place) : Type 0 where
+  pub record IsBelow (es : List (Entry D)) (p : Handle) (place : NewPosition) : Type 0 where
     pub entry : Entry D
     pub found : entry_of es p ≡ Some entry
-    pub is : place ≡ record { top = top_of entry; depth = depth_of entry + 1; last = head_of (young es p) }
+    pub is : place ≡ record { top = top_of entry; depth = depth_of entry + 1; last = head_of (children_newest_first es p) }
 
-  pub below-of : (es : List (Entry D)) (p : Handle) (place : Place) → IsSomeAnd (entry_of es p) (λ e. place ≡ record { top = top_of e; depth = depth_of e + 1; last = head_of (young es p) }) → IsBelow es p place
+  pub below-of : (es : List (Entry D)) (p : Handle) (place : NewPosition) → IsSomeAnd (entry_of es p) (λ e. place ≡ record { top = top_of e; depth = depth_of e + 1; last = head_of (children_newest_first es p) }) → IsBelow es p place
   below-of es p place w = by_entry (entry_of es p) refl w
     where
-      by_entry : (o : Option (Entry D)) → entry_of es p ≡ o → IsSomeAnd o (λ e. place ≡ record { top = top_of e; depth = depth_of e + 1; last = head_of (young es p) }) → IsBelow es p place
+      by_entry : (o : Option (Entry D)) → entry_of es p ≡ o → IsSomeAnd o (λ e. place ≡ record { top = top_of e; depth = depth_of e + 1; last = head_of (children_newest_first es p) }) → IsBelow es p place
       by_entry None f q = absurd q
       by_entry (Some e) f q = record { entry = e; found = f; is = q }
 
-  module _ (es : List (Entry D)) (p : Handle) (place : Place) (below : IsBelow es p place) (h : Handle) (frame : ℕ) (doc : D) where
+  module _ (es : List (Entry D)) (p : Handle) (place : NewPosition) (below : IsBelow es p place) (h : Handle) (frame : ℕ) (doc : D) where
     node : Node D
     node = record { frame = frame; parent = Some p; top = place.top; depth = place.depth; doc = doc }
 
@@ -88,7 +83,7 @@ module _ {D : Type 0} where
     pub bare : row.node.parent ≡ None
     pub room : row.size ≤ 255
 
-  pub IsCounted-below : (s mid : Slots (Row D)) (order : List Handle) (pages : ℕ) (is : IsForest s order pages) (p : Handle) (place : Place) → IsBelow (entries_in (kept s order [])) p place → page_size (entries_in (kept s order [])) place.top ≢ 256
+  pub IsCounted-below : (s mid : Slots (Row D)) (order : List Handle) (pages : ℕ) (is : IsForest s order pages) (p : Handle) (place : NewPosition) → IsBelow (entries_in (kept s order [])) p place → page_size (entries_in (kept s order [])) place.top ≢ 256
       → (h : Handle) (row : Row D) → live s h ≡ None → Updates s mid h (Some row) → IsCounted s mid (entries_in (kept s order [])) h place.top
   IsCounted-below s mid order pages is p place below room h row new up =
       let top = TopRow-live s order pages is p below.entry below.found in

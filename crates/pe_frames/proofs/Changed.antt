@@ -5,12 +5,12 @@ use Rattle.std.specs.Option.{option_map}
 use Rattle.std.proofs.lemmas.List.{map-append}
 use Rattle.pe_base.specs.declared.limits.TheConstants.{DEPTH_LIMIT}
 use Rattle.pe_arena.specs.declared.handle.Handle.{Handle}
-use Rattle.pe_frames.specs.Forest.{Entry, same_handle, has_handle, entry_of, is_under, top_of, redone, AreFrames}
+use Rattle.pe_frames.specs.Forest.{Entry, same_handle, has_handle, entry_of, is_under, top_of, with_document, AreFrames}
 use Rattle.pe_frames.specs.Order.{after, is_child, children, tree_order, handles_under}
 use Rattle.pe_frames.specs.Walk.{visited, is_of_page, changed_where, changed_in, changed_to, changed_under, changed_page}
 use Rattle.pe_frames.proofs.Lemmas.{some_same}
 use Rattle.std.proofs.lemmas.Bool.{cases_Bool, false_from_ne_true}
-use Rattle.pe_frames.proofs.Nodes.{same_handle-Decides, has-push}
+use Rattle.pe_frames.proofs.Handles.{has-push, same_handle-Decides}
 use Rattle.pe_frames.proofs.Below.{entry-handle}
 use Rattle.pe_frames.proofs.Tree.{Each, each-map, IsTree}
 use Rattle.pe_frames.proofs.Under.{handles-once}
@@ -86,8 +86,8 @@ module _ {D : Type 0} where
           ∙ ap (option_map (changed_in change done)) found
           ∙ ap (λ b. Some (record e { doc = cond b (change e) e.doc })) (ap (λ k. has_handle k done) (entry-handle es next e found) ∙ fresh)
 
-      one-entry : (x : Entry D) → IsOwn es x → redone next (change e) (changed_in change done x) ≡ changed_in change (done ++ next ∷ []) x
-      one-entry x own = elim (cases_Bool (same_handle x.handle next)) as (λ _. redone next (change e) (changed_in change done x) ≡ changed_in change (done ++ next ∷ []) x) [
+      one-entry : (x : Entry D) → IsOwn es x → with_document next (change e) (changed_in change done x) ≡ changed_in change (done ++ next ∷ []) x
+      one-entry x own = elim (cases_Bool (same_handle x.handle next)) as (λ _. with_document next (change e) (changed_in change done x) ≡ changed_in change (done ++ next ∷ []) x) [
         | inl t ↦
             let same = (same_handle-Decides x.handle next).0 t in
             let it : x ≡ e = some_same (sym own ∙ ap (entry_of es) same ∙ found) in
@@ -102,15 +102,15 @@ module _ {D : Type 0} where
       ]
 
       -- one more frame is changed
-      pub changed-one : map (redone next (change e)) (map (changed_in change done) es) ≡ map (changed_in change (done ++ next ∷ [])) es
-      changed-one = map-twice (redone next (change e)) (changed_in change done) es ∙ same-changes (λ x. redone next (change e) (changed_in change done x)) (changed_in change (done ++ next ∷ [])) one-entry
+      pub changed-one : map (with_document next (change e)) (map (changed_in change done) es) ≡ map (changed_in change (done ++ next ∷ [])) es
+      changed-one = map-twice (with_document next (change e)) (changed_in change done) es ∙ same-changes (λ x. with_document next (change e) (changed_in change done x)) (changed_in change (done ++ next ∷ [])) one-entry
 
       -- where the change leaves its document, nothing has to be written
       pub changed-none : change e ≡ e.doc → map (changed_in change done) es ≡ map (changed_in change (done ++ next ∷ [])) es
       changed-none still = same-changes (changed_in change done) (changed_in change (done ++ next ∷ [])) (λ x own. sym (by_test x own) ∙ one-entry x own)
         where
-          by_test : (x : Entry D) → IsOwn es x → redone next (change e) (changed_in change done x) ≡ changed_in change done x
-          by_test x own = elim (cases_Bool (same_handle x.handle next)) as (λ _. redone next (change e) (changed_in change done x) ≡ changed_in change done x) [
+          by_test : (x : Entry D) → IsOwn es x → with_document next (change e) (changed_in change done x) ≡ changed_in change done x
+          by_test x own = elim (cases_Bool (same_handle x.handle next)) as (λ _. with_document next (change e) (changed_in change done x) ≡ changed_in change done x) [
             | inl t ↦
                 let same = (same_handle-Decides x.handle next).0 t in
                 let it : x ≡ e = some_same (sym own ∙ ap (entry_of es) same ∙ found) in
@@ -124,9 +124,9 @@ module _ {D : Type 0} where
 
     module _ (tree : IsTree es DEPTH_LIMIT) (change : Entry D → D) where
       -- the first frame of the walk is changed
-      pub changed-first : (root : Handle) (e : Entry D) → entry_of es root ≡ Some e → map (redone root (change e)) es ≡ changed_to change es root root
+      pub changed-first : (root : Handle) (e : Entry D) → entry_of es root ≡ Some e → map (with_document root (change e)) es ≡ changed_to change es root root
       changed-first root e f =
-          ap (map (redone root (change e))) (sym (none es))
+          ap (map (with_document root (change e))) (sym (none es))
           ∙ changed-one change [] root refl e f
           ∙ ap (λ ks. map (changed_in change ks) es) (sym (first-visited es are tree root (ap is_some f)))
         where
@@ -152,7 +152,7 @@ module _ {D : Type 0} where
             by_entry None f = entry-changed (λ x. has_handle x.handle (visited h (handles_under es root))) change es next ∙ ap (option_map (changed_in change (visited h (handles_under es root)))) f ∙ sym f
             by_entry (Some e) f = next-unvisited e f ∙ sym f
 
-        pub changed-next : (e : Entry D) → entry_of es next ≡ Some e → map (redone next (change e)) (changed_to change es root h) ≡ changed_to change es root next
+        pub changed-next : (e : Entry D) → entry_of es next ≡ Some e → map (with_document next (change e)) (changed_to change es root h) ≡ changed_to change es root next
         changed-next e f = changed-one change (visited h (handles_under es root)) next fresh-next e f ∙ more
 
         pub skipped-next : (e : Entry D) → entry_of es next ≡ Some e → change e ≡ e.doc → changed_to change es root h ≡ changed_to change es root next

@@ -1,15 +1,14 @@
 -- The handles of children, newest first.
-use Rattle.std.proofs.Common.{◌≡◌, ◌⊎◌, inl, inr, Bool, true, false, cond, ◌||◌, List, [], ◌∷◌, ◌++◌, map, Option, None, Some, is_some, refl, sym, ap, ◌∙◌, true≢false}
+use Rattle.std.proofs.Common.{◌≡◌, ◌⊎◌, inl, inr, Bool, true, false, cond, ◌||◌, List, [], ◌∷◌, ◌++◌, map, None, Some, is_some, refl, sym, ap, ◌∙◌, true≢false}
 use Rattle.std.specs.Prelude.{unwrap_or}
 use Rattle.std.proofs.lemmas.List.{map-append}
 use Rattle.pe_arena.specs.declared.handle.Handle.{Handle}
 use Rattle.pe_frames.specs.declared.node.Node.{Node}
 use Rattle.pe_frames.specs.Forest.{Entry, same_handle, has_handle, last_of, parent_of}
-use Rattle.pe_frames.specs.Order.{is_named, head_of, after, is_child, children, child_handles}
-use Rattle.pe_frames.specs.Links.{before, young}
-use Rattle.pe_frames.specs.Kept.{Kept, node_at, entry_in, entries_in, AreNodes, AreApart, AreOnce}
-use Rattle.pe_frames.proofs.Nodes.{has-push, same_handle-Decides, same_or_other, other-turned}
-use Rattle.pe_frames.proofs.Below.{last-push}
+use Rattle.pe_frames.specs.Order.{is_named, head_of, after, is_child, children, child_handles, AreOnce}
+use Rattle.pe_frames.specs.Neighbours.{before, children_newest_first}
+use Rattle.pe_frames.specs.Kept.{Kept, node_at, entry_in, entries_in, AreNodes, AreApart}
+use Rattle.pe_frames.proofs.Handles.{has-push, other-turned, same_handle-Decides, same_or_other, last-push, named_is}
 use Rattle.std.proofs.lemmas.Bool.{cases_Bool, or_from, or_parts}
 
 -- a handle that is not among these
@@ -105,16 +104,9 @@ after-turned (x ∷ ks) k once =
     ∙ ap (λ o. cond (is_named o k) (Some x) (after k (turned ks))) (last-turned ks)
     ∙ ap (λ o. cond (is_named (head_of ks) k) (Some x) o) (after-turned ks k once.1)
 
-named_is : (o : Option Handle) (p : Handle) → is_named o p ≡ true → o ≡ Some p
-named_is None p e = absurd (true≢false (sym e))
-named_is (Some k) p e = ap Some ((same_handle-Decides k p).0 e)
-
-pub is_named-of : (o : Option Handle) (p : Handle) → o ≡ Some p → is_named o p ≡ true
-is_named-of o p e = ap (λ x. is_named x p) e ∙ (same_handle-Decides p p).1 refl
-
 module _ {D : Type 0} where
   -- the handles of the children are those, turned
-  pub children-turned : (es : List (Entry D)) (h : Handle) → child_handles es h ≡ turned (young es h)
+  pub children-turned : (es : List (Entry D)) (h : Handle) → child_handles es h ≡ turned (children_newest_first es h)
   children-turned [] h = refl
   children-turned (e ∷ es) h = by_test (is_child h e) (children-turned es h)
     where
@@ -122,21 +114,21 @@ module _ {D : Type 0} where
       append_none [] = refl
       append_none (k ∷ ks) = ap (λ x. k ∷ x) (append_none ks)
 
-      by_test : (b : Bool) → child_handles es h ≡ turned (young es h) → map (λ (x : Entry D). x.handle) (children es h ++ cond b (e ∷ []) []) ≡ turned (cond b (e.handle ∷ young es h) (young es h))
+      by_test : (b : Bool) → child_handles es h ≡ turned (children_newest_first es h) → map (λ (x : Entry D). x.handle) (children es h ++ cond b (e ∷ []) []) ≡ turned (cond b (e.handle ∷ children_newest_first es h) (children_newest_first es h))
       by_test true rest = map-append (λ (x : Entry D). x.handle) (children es h) (e ∷ []) ∙ ap (λ ks. ks ++ e.handle ∷ []) rest
       by_test false rest = map-append (λ (x : Entry D). x.handle) (children es h) [] ∙ append_none (child_handles es h) ∙ rest
 
   -- the first of them
-  pub first-child : (es : List (Entry D)) (h : Handle) → head_of (child_handles es h) ≡ last_of (young es h)
-  first-child es h = ap head_of (children-turned es h) ∙ head-turned (young es h)
+  pub first-child : (es : List (Entry D)) (h : Handle) → head_of (child_handles es h) ≡ last_of (children_newest_first es h)
+  first-child es h = ap head_of (children-turned es h) ∙ head-turned (children_newest_first es h)
 
   -- the one behind another
-  pub later-child : (es : List (Entry D)) (h k : Handle) → AreOnce (young es h) → after k (child_handles es h) ≡ before k (young es h)
-  later-child es h k once = ap (after k) (children-turned es h) ∙ after-turned (young es h) k once
+  pub later-child : (es : List (Entry D)) (h k : Handle) → AreOnce (children_newest_first es h) → after k (child_handles es h) ≡ before k (children_newest_first es h)
+  later-child es h k once = ap (after k) (children-turned es h) ∙ after-turned (children_newest_first es h) k once
 
   -- and none behind what is no child
-  pub later-none : (es : List (Entry D)) (h k : Handle) → has_handle k (young es h) ≡ false → after k (child_handles es h) ≡ None
-  later-none es h k e = ap (after k) (children-turned es h) ∙ after-absent k (turned (young es h)) (has-turned k (young es h) ∙ e)
+  pub later-none : (es : List (Entry D)) (h k : Handle) → has_handle k (children_newest_first es h) ≡ false → after k (child_handles es h) ≡ None
+  later-none es h k e = ap (after k) (children-turned es h) ∙ after-absent k (turned (children_newest_first es h)) (has-turned k (children_newest_first es h) ∙ e)
 
   -- the kept node of a handle names this parent
   pub record IsBornOf (xs : List (Kept D)) (p l : Handle) : Type 0 where
@@ -152,11 +144,11 @@ module _ {D : Type 0} where
   ]
 
   -- each of the children names its parent
-  pub born : (xs : List (Kept D)) (p l : Handle) → AreNodes xs → AreApart xs → has_handle l (young (entries_in xs) p) ≡ true → IsBornOf xs p l
+  pub born : (xs : List (Kept D)) (p l : Handle) → AreNodes xs → AreApart xs → has_handle l (children_newest_first (entries_in xs) p) ≡ true → IsBornOf xs p l
   born [] p l are apart e = absurd (true≢false (sym e))
   born (x ∷ xs) p l are apart e = elim (cases_Bool (is_child p (entry_in (entries_in xs) x))) as (λ _. IsBornOf (x ∷ xs) p l) [
-    | inl t ↦ first t (λ q. born xs p l are.1 apart.1 q) (same_or_other x.handle l) (sym (ap (λ b. has_handle l (cond b (x.handle ∷ young (entries_in xs) p) (young (entries_in xs) p))) t) ∙ e)
-    | inr f ↦ older (born xs p l are.1 apart.1 (sym (ap (λ b. has_handle l (cond b (x.handle ∷ young (entries_in xs) p) (young (entries_in xs) p))) f) ∙ e))
+    | inl t ↦ first t (λ q. born xs p l are.1 apart.1 q) (same_or_other x.handle l) (sym (ap (λ b. has_handle l (cond b (x.handle ∷ children_newest_first (entries_in xs) p) (children_newest_first (entries_in xs) p))) t) ∙ e)
+    | inr f ↦ older (born xs p l are.1 apart.1 (sym (ap (λ b. has_handle l (cond b (x.handle ∷ children_newest_first (entries_in xs) p) (children_newest_first (entries_in xs) p))) f) ∙ e))
   ]
     where
       older : IsBornOf xs p l → IsBornOf (x ∷ xs) p l
@@ -166,10 +158,10 @@ module _ {D : Type 0} where
         parent = b.parent;
       }
 
-      first : is_child p (entry_in (entries_in xs) x) ≡ true → (has_handle l (young (entries_in xs) p) ≡ true → IsBornOf xs p l) → (same_handle x.handle l ≡ true) ⊎ (same_handle x.handle l ≡ false) → (same_handle x.handle l || has_handle l (young (entries_in xs) p)) ≡ true → IsBornOf (x ∷ xs) p l
+      first : is_child p (entry_in (entries_in xs) x) ≡ true → (has_handle l (children_newest_first (entries_in xs) p) ≡ true → IsBornOf xs p l) → (same_handle x.handle l ≡ true) ⊎ (same_handle x.handle l ≡ false) → (same_handle x.handle l || has_handle l (children_newest_first (entries_in xs) p)) ≡ true → IsBornOf (x ∷ xs) p l
       first t rest (inl s) q = record {
         node = x.node;
         found = ap (λ b. cond b (Some x.node) (node_at xs l)) s;
         parent = ap (λ n. n.parent) (sym are.0) ∙ named_is (parent_of (entry_in (entries_in xs) x)) p t;
       }
-      first t rest (inr s) q = older (rest (ap (λ b. b || has_handle l (young (entries_in xs) p)) (sym s) ∙ q))
+      first t rest (inr s) q = older (rest (ap (λ b. b || has_handle l (children_newest_first (entries_in xs) p)) (sym s) ∙ q))

@@ -6,7 +6,7 @@ use Rattle.pe_base.specs.declared.limits.TheConstants.{DEPTH_LIMIT}
 use Rattle.pe_arena.specs.declared.handle.Handle.{Handle}
 use Rattle.pe_frames.specs.Forest.{Entry, first_of, path, parent_of, path_of, top_of, entry_of}
 use Rattle.pe_frames.proofs.Below.{entry-handle}
-use Rattle.pe_frames.proofs.Pages.{first-push}
+use Rattle.pe_frames.proofs.Handles.{first-push}
 use Rattle.pe_frames.proofs.Tree.{IsTree}
 use Rattle.pe_frames.proofs.Upward.{above-none}
 use Rattle.pe_frames.proofs.Climbing.{steps-of}

@@ -4,12 +4,12 @@ use Rattle.std.specs.Prelude.{unwrap_or, IsSomeAnd, IsTrue}
 use Rattle.std.specs.Option.{option_and_then, option_map}
 use Rattle.pe_base.specs.declared.limits.TheConstants.{DEPTH_LIMIT}
 use Rattle.pe_arena.specs.declared.handle.Handle.{Handle}
-use Rattle.pe_frames.specs.declared.row.Standing.{Standing}
+use Rattle.pe_frames.specs.declared.row.FramePosition.{FramePosition}
 use Rattle.pe_frames.specs.Forest.{Entry, same_handle, has_handle, last_of, path, path_of, parent_of, entry_of, is_under}
-use Rattle.pe_frames.specs.Order.{head_of, after, children, child_handles, handles_under}
-use Rattle.pe_frames.specs.Links.{before, siblings}
-use Rattle.pe_frames.specs.Kept.{AreOnce, standing_in}
-use Rattle.pe_frames.proofs.Nodes.{same_handle-Decides, has-append}
+use Rattle.pe_frames.specs.Order.{head_of, after, children, child_handles, handles_under, AreOnce}
+use Rattle.pe_frames.specs.Neighbours.{before, siblings}
+use Rattle.pe_frames.specs.Kept.{standing_in}
+use Rattle.pe_frames.proofs.Handles.{has-append, same_handle-Decides, no_head, no_last}
 use Rattle.std.proofs.lemmas.Bool.{false_from_ne_true}
 use Rattle.pe_frames.proofs.Below.{entry-handle}
 use Rattle.pe_frames.proofs.Children.{after-absent, first-child, later-child}
@@ -20,7 +20,7 @@ use Rattle.pe_frames.proofs.Subtrees.{IsUp, up-of, root-live, under-same, under-
 use Rattle.pe_frames.proofs.Under.{IsUnder, handles-are, handles-live, handles-once, its-own}
 use Rattle.pe_frames.proofs.Walking.{after-split, beyond, beyond-root, beyond-later, beyond-none, next-first, next-none}
 use Rattle.std.proofs.Math.Bool.{or-true}
-use Rattle.pe_frames.proofs.Lemmas.{some_same}
+use Rattle.pe_frames.proofs.Lemmas.{some_same, no_value}
 
 -- what a test of two handles says
 pub differ : (r b : Bool) → r ≡ not b → r ≡ true → b ≡ false
@@ -65,17 +65,13 @@ module _ {D : Type 0} where
       let none : last_of u.entry.above ≡ None = ap (option_and_then parent_of) (sym u.found) ∙ q in
       let other_too : same_handle u.entry.handle root ≡ false = ap (λ j. same_handle j root) (entry-handle es k u.entry u.found) ∙ other in
       true≢false (sym u.under ∙ under-other root u.entry other_too ∙ ap (has_handle root) (no_last u.entry.above none))
-    where
-      no_last : (ks : List Handle) → last_of ks ≡ None → ks ≡ []
-      no_last [] e = refl
-      no_last (x ∷ ks) e = absurd cc
 
   -- what is within the root is live
   pub within-dead : (es : List (Entry D)) (root k : Handle) → IsWithin es root k → entry_of es k ≡ None → ⊥
   within-dead es root k w q = let u = within-entry es root k w in true≢false (sym (ap is_some u.found) ∙ ap is_some q)
 
   -- the parent of where a frame stands
-  pub parent-stands : (es : List (Entry D)) (k : Handle) (here : Standing) → StandsAt es k here → option_and_then parent_of (entry_of es k) ≡ here.parent
+  pub parent-stands : (es : List (Entry D)) (k : Handle) (here : FramePosition) → StandsAt es k here → option_and_then parent_of (entry_of es k) ≡ here.parent
   parent-stands es k here at = ap (option_and_then parent_of) at.found ∙ sym (ap (λ x. x.parent) at.is)
 
   -- a live frame and its parent
@@ -169,7 +165,7 @@ module _ {D : Type 0} where
     links-later k p e q = ap (λ o. before k (siblings es o)) q ∙ sym (later-child es p k (tree.single p))
 
     -- the way up from where a frame stands
-    record Rises (root k : Handle) (here : Standing) : Type 0 where
+    record Rises (root k : Handle) (here : FramePosition) : Type 0 where
       top : Entry D
       own : entry_of es top.handle ≡ Some top
       whole : handles_under es root ≡ walk DEPTH_LIMIT es top
@@ -179,7 +175,7 @@ module _ {D : Type 0} where
       parent : here.parent ≡ Some up.entry.handle
       later : here.links.later ≡ after entry.handle (child_handles es up.entry.handle)
 
-    rises : (root k : Handle) (here : Standing) → IsWithin es root k → same_handle k root ≡ false → StandsAt es k here → Rises root k here
+    rises : (root k : Handle) (here : FramePosition) → IsWithin es root k → same_handle k root ≡ false → StandsAt es k here → Rises root k here
     rises root k here w other at =
         let i = within root k w in
         let same : at.entry ≡ i.under.entry = some_same (sym at.found ∙ i.under.found) in
@@ -198,7 +194,7 @@ module _ {D : Type 0} where
         }
 
     -- the later sibling is past the frame
-    pub past-later : (root k : Handle) (here : Standing) → IsWithin es root k → same_handle k root ≡ false → StandsAt es k here → is_some here.links.later ≡ true → here.links.later ≡ past_of es root k
+    pub past-later : (root k : Handle) (here : FramePosition) → IsWithin es root k → same_handle k root ≡ false → StandsAt es k here → is_some here.links.later ≡ true → here.links.later ≡ past_of es root k
     past-later root k here w other at some = by_later here.links.later refl some
       where
         by_later : (o : Option Handle) → here.links.later ≡ o → is_some o ≡ true → o ≡ past_of es root k
@@ -208,20 +204,16 @@ module _ {D : Type 0} where
             sym (past-is root k r.top r.entry r.whole r.found ∙ beyond-later es DEPTH_LIMIT tree DEPTH_LIMIT (omega arith) r.top r.own r.entry (its-own es k r.entry r.found) r.up c (sym r.later ∙ q))
 
     -- where there is none, what is past its parent
-    pub past-none : (root k p : Handle) (here : Standing) → IsWithin es root k → same_handle k root ≡ false → StandsAt es k here → is_some here.links.later ≡ false → here.parent ≡ Some p → past_of es root p ≡ past_of es root k
+    pub past-none : (root k p : Handle) (here : FramePosition) → IsWithin es root k → same_handle k root ≡ false → StandsAt es k here → is_some here.links.later ≡ false → here.parent ≡ Some p → past_of es root p ≡ past_of es root k
     past-none root k p here w other at none q =
         let r = rises root k here w other at in
         let named : r.up.entry.handle ≡ p = some_same (sym r.parent ∙ q) in
         past-is root p r.top r.up.entry r.whole (ap (entry_of es) (sym named) ∙ r.up.found)
-        ∙ sym (beyond-none es DEPTH_LIMIT tree DEPTH_LIMIT (omega arith) r.top r.own r.entry (its-own es k r.entry r.found) r.up (sym r.later ∙ no_later here.links.later none))
+        ∙ sym (beyond-none es DEPTH_LIMIT tree DEPTH_LIMIT (omega arith) r.top r.own r.entry (its-own es k r.entry r.found) r.up (sym r.later ∙ no_value here.links.later none))
         ∙ sym (past-is root k r.top r.entry r.whole r.found)
-      where
-        no_later : (o : Option Handle) → is_some o ≡ false → o ≡ None
-        no_later None t = refl
-        no_later (Some c) t = absurd (true≢false t)
 
     -- the first child stands behind the frame
-    pub follows-first : (root k : Handle) (here : Standing) → IsWithin es root k → StandsAt es k here → is_some here.links.first ≡ true → here.links.first ≡ after k (handles_under es root)
+    pub follows-first : (root k : Handle) (here : FramePosition) → IsWithin es root k → StandsAt es k here → is_some here.links.first ≡ true → here.links.first ≡ after k (handles_under es root)
     follows-first root k here w at some = by_first here.links.first refl some
       where
         by_first : (o : Option Handle) → here.links.first ≡ o → is_some o ≡ true → o ≡ after k (handles_under es root)
@@ -234,20 +226,16 @@ module _ {D : Type 0} where
             ∙ next-first es DEPTH_LIMIT tree DEPTH_LIMIT (omega arith) i.top i.own i.under.entry (its-own es k i.under.entry i.under.found) i.under.under c first)
 
     -- where there is none, what is past the frame
-    pub follows-past : (root k : Handle) (here : Standing) → IsWithin es root k → StandsAt es k here → is_some here.links.first ≡ false → (answer : Option Handle) → answer ≡ past_of es root k → answer ≡ after k (handles_under es root)
+    pub follows-past : (root k : Handle) (here : FramePosition) → IsWithin es root k → StandsAt es k here → is_some here.links.first ≡ false → (answer : Option Handle) → answer ≡ past_of es root k → answer ≡ after k (handles_under es root)
     follows-past root k here w at none answer p =
         let i = within root k w in
         let handle = entry-handle es k i.under.entry i.under.found in
-        let first : head_of (child_handles es i.under.entry.handle) ≡ None = ap (λ j. head_of (child_handles es j)) handle ∙ first-child es k ∙ sym (ap (λ x. x.links.first) at.is) ∙ no_first here.links.first none in
+        let first : head_of (child_handles es i.under.entry.handle) ≡ None = ap (λ j. head_of (child_handles es j)) handle ∙ first-child es k ∙ sym (ap (λ x. x.links.first) at.is) ∙ no_value here.links.first none in
         p
         ∙ past-is root k i.top i.under.entry i.whole i.under.found
         ∙ next-none es DEPTH_LIMIT tree DEPTH_LIMIT (omega arith) i.top i.own i.under.entry (its-own es k i.under.entry i.under.found) first
         ∙ ap (λ j. after j (walk DEPTH_LIMIT es i.top)) handle
         ∙ sym (ap (after k) i.whole)
-      where
-        no_first : (o : Option Handle) → is_some o ≡ false → o ≡ None
-        no_first None t = refl
-        no_first (Some c) t = absurd (true≢false t)
 
   -- the handles that were listed so far begin those of the root and what is below it, and this one is their last
   pub record IsListed (es : List (Entry D)) (root at : Handle) (below : List Handle) : Type 0 where
@@ -298,7 +286,3 @@ module _ {D : Type 0} where
       -- where nothing stands behind it, all are listed
       pub listed-all : (answer : Option Handle) → answer ≡ after at (handles_under es root) → answer ≡ None → root ∷ below ≡ handles_under es root
       listed-all answer p q = so_far.listed ∙ ap (λ ks. so_far.front ++ at ∷ ks) (sym (no_head so_far.back (sym behind-listed ∙ sym p ∙ q))) ∙ sym so_far.is
-        where
-          no_head : (ks : List Handle) → head_of ks ≡ None → ks ≡ []
-          no_head [] e = refl
-          no_head (k ∷ ks) e = absurd cc

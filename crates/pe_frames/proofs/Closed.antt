@@ -2,16 +2,16 @@
 use Rattle.std.proofs.Common.{◌≡◌, inl, inr, ℕ, ◌+◌, ◌-◌, ◌≤◌, Bool, true, false, cond, ◌||◌, ◌&&◌, List, [], ◌∷◌, length, Option, None, Some, IsSome, is_some, is_none, refl, sym, ap, subst, ◌∙◌, arith, true≢false}
 use Rattle.std.specs.Prelude.{◌==◌, filter, not, IfSome}
 use Rattle.std.specs.Option.{option_map}
-use Rattle.std.proofs.lemmas.Bool.Decides.{Decides-eqb}
 use Rattle.pe_arena.specs.declared.handle.Handle.{Handle}
 use Rattle.pe_arena.specs.Slots.{Slots, live}
 use Rattle.pe_frames.specs.declared.row.Row.{Row}
 use Rattle.pe_frames.specs.declared.node.Node.{Node}
-use Rattle.pe_frames.specs.Forest.{Entry, first_of, last_of, same_handle, has_handle, entry_of, node_in, parent_of, top_of, is_top, is_under, page_count, IsDead, StayDead}
+use Rattle.pe_frames.specs.Forest.{Entry, first_of, last_of, same_handle, has_handle, entry_of, parent_of, top_of, is_top, is_under, page_count, IsDead, StayDead}
 use Rattle.pe_frames.specs.Order.{is_named, after, handles_under, closed}
-use Rattle.pe_frames.specs.Links.{before, siblings, links_in, at, unlinked, smaller, Rewrites, Removes}
+use Rattle.pe_frames.specs.Neighbours.{before, siblings, links_in, changed_at, unlinked, with_fewer_frames, Rewrites, Removes}
 use Rattle.pe_frames.specs.Kept.{kept, entries_in, HasLinks, Sweeps, forest_in, IsForest}
-use Rattle.pe_frames.proofs.Nodes.{same_handle-Decides, same_or_other, found-live, entries-nodes}
+use Rattle.pe_frames.proofs.Nodes.{found-live, entries-nodes}
+use Rattle.pe_frames.proofs.Handles.{same_handle-Decides, same_or_other, is_named-of, top-none}
 use Rattle.pe_frames.proofs.Pages.{top-found}
 use Rattle.std.proofs.lemmas.Bool.{false_from_ne_true}
 use Rattle.pe_frames.proofs.Sizes.{TopRow-live}
@@ -25,23 +25,12 @@ use Rattle.pe_frames.proofs.Without.{after-itself, before-itself}
 use Rattle.pe_frames.proofs.Within.{goes-under, root-goes, parent-stays, child-goes, top-goes, page-goes, embedder-of}
 use Rattle.pe_frames.proofs.Unlinked.{at-keeps, unlinked-node, unlinked-size, child-listed, siblings-once, after-has, before-has, links-closed}
 use Rattle.pe_frames.proofs.Leaving.{Changes, stayed, Leaves, page-less, pages-same, pages-one, IsCut-left, sized-left, length-left}
-use Rattle.pe_frames.proofs.Lemmas.{if_each, some_same}
-
-named-of : (o : Option Handle) (k : Handle) → o ≡ Some k → is_named o k ≡ true
-named-of o k e = ap (λ x. is_named x k) e ∙ (same_handle-Decides k k).1 refl
+use Rattle.pe_frames.proofs.Lemmas.{if_each, some_same, node_some, some_row}
 
 module _ {D : Type 0} where
   -- the top frame of the page that is left, once the frame is removed
   abbrev pub page_left : Entry D → Option Handle
   page_left e = cond (is_none (parent_of e)) None (Some (top_of e))
-
-  some_row : (o : Option (Row D)) → IsSome (option_map (λ r. r.node) o) → IsSome o
-  some_row None p = p
-  some_row (Some r) p = refl
-
-  node_some : (o : Option (Entry D)) → IsSome o → IsSome (option_map node_in o)
-  node_some None p = p
-  node_some (Some e) p = refl
 
   -- a live frame has a row
   pub row-lives : (s : Slots (Row D)) (order : List Handle) (pages : ℕ) → IsForest s order pages → (k : Handle) → IsSome (entry_of (entries_in (kept s order [])) k) → IsSome (live s k)
@@ -99,13 +88,13 @@ module _ {D : Type 0} where
     earlier-stays : (k : Handle) → after h (siblings (entries_in (kept s order [])) (parent_of e)) ≡ Some k → IsSome (live s k) × (has_handle k (handles_under (entries_in (kept s order [])) h) ≡ false)
     earlier-stays k q =
         let ks = siblings (entries_in (kept s order [])) (parent_of e) in
-        let has = after-has h k ks (named-of (after h ks) k q) in
+        let has = after-has h k ks (is_named-of (after h ks) k q) in
         sibling-stays k has (ap (λ o. is_named o h) (sym q) ∙ after-itself h ks (siblings-once (kept s order []) is.nodes is.apart (parent_of e)) (no-siblings k has))
 
     later-stays : (k : Handle) → before h (siblings (entries_in (kept s order [])) (parent_of e)) ≡ Some k → IsSome (live s k) × (has_handle k (handles_under (entries_in (kept s order [])) h) ≡ false)
     later-stays k q =
         let ks = siblings (entries_in (kept s order [])) (parent_of e) in
-        let has = before-has h k ks (named-of (before h ks) k q) in
+        let has = before-has h k ks (is_named-of (before h ks) k q) in
         sibling-stays k has (ap (λ o. is_named o h) (sym q) ∙ before-itself h ks (siblings-once (kept s order []) is.nodes is.apart (parent_of e)) (no-siblings k has))
 
     -- the top frame of the page stays, where the frame is none
@@ -126,10 +115,6 @@ module _ {D : Type 0} where
     pub pages-gone : page_count (entries_in (kept s order [])) ≡ page_count (filter (λ x. not (is_under h x)) (entries_in (kept s order []))) + cond (is_none (parent_of e)) 1 0
     pages-gone = by_parent (parent_of e) refl
       where
-        top-none : (ks : List Handle) → (length ks == 0) ≡ true → last_of ks ≡ None
-        top-none [] t = refl
-        top-none (k ∷ ks) t = let n = (Decides-eqb (length (k ∷ ks)) 0).0 t in absurd (omega (arith, n))
-
         below-top : (x : Entry D) → entry_of (entries_in (kept s order [])) x.handle ≡ Some x → has_handle x.handle (handles_under (entries_in (kept s order [])) h) ≡ true → is_top x ≡ true → x ≡ e
         below-top x f t top =
             let g = top-goes (entries_in (kept s order [])) (tree-forest s order pages is) h e found x.handle x f (top-none x.above top) in
@@ -222,20 +207,20 @@ module _ {D : Type 0} where
             let top = top-three p q in
             subst (λ o. IfSome o (λ (r : Row D). length (handles_under (entries_in (kept s order [])) h) ≤ r.size)) (sym top.here) top.size)
 
-        module _ (t : Slots (Row D)) (shrunk : Rewrites three t (at (page_left e) (smaller (length (handles_under (entries_in (kept s order [])) h))))) where
-          changes-closed : Changes s t (λ k. has_handle k (handles_under (entries_in (kept s order [])) h)) (λ k r. at (page_left e) (smaller (length (handles_under (entries_in (kept s order [])) h))) k (unlinked (links_in (entries_in (kept s order [])) h (parent_of e)) (parent_of e) k r))
+        module _ (t : Slots (Row D)) (shrunk : Rewrites three t (changed_at (page_left e) (with_fewer_frames (length (handles_under (entries_in (kept s order [])) h))))) where
+          changes-closed : Changes s t (λ k. has_handle k (handles_under (entries_in (kept s order [])) h)) (λ k r. changed_at (page_left e) (with_fewer_frames (length (handles_under (entries_in (kept s order [])) h))) k (unlinked (links_in (entries_in (kept s order [])) h (parent_of e)) (parent_of e) k r))
           changes-closed =
               let es = entries_in (kept s order []) in
               let l = links_in es h (parent_of e) in
               let n = length (handles_under es h) in
-              let both = Rewrites-then two three t (unlinked l (parent_of e)) (at (page_left e) (smaller n)) mended shrunk in
+              let both = Rewrites-then two three t (unlinked l (parent_of e)) (changed_at (page_left e) (with_fewer_frames n)) mended shrunk in
               record {
-                rows = λ k. both.rows k ∙ ap (option_map (λ r. at (page_left e) (smaller n) k (unlinked l (parent_of e) k r))) (live-two k);
-                keeps = λ k r. at-keeps (λ (x : Row D). x.node) (page_left e) (smaller n) (λ x. refl) k (unlinked l (parent_of e) k r) ∙ unlinked-node l (parent_of e) k r;
+                rows = λ k. both.rows k ∙ ap (option_map (λ r. changed_at (page_left e) (with_fewer_frames n) k (unlinked l (parent_of e) k r))) (live-two k);
+                keeps = λ k r. at-keeps (λ (x : Row D). x.node) (page_left e) (with_fewer_frames n) (λ x. refl) k (unlinked l (parent_of e) k r) ∙ unlinked-node l (parent_of e) k r;
                 same = SameMarks-then s one t taken.same (SameMarks-then one two t emptied.same both.same);
               }
 
-          size-changed : (k : Handle) (r : Row D) → (at (page_left e) (smaller (length (handles_under (entries_in (kept s order [])) h))) k (unlinked (links_in (entries_in (kept s order [])) h (parent_of e)) (parent_of e) k r)).size
+          size-changed : (k : Handle) (r : Row D) → (changed_at (page_left e) (with_fewer_frames (length (handles_under (entries_in (kept s order [])) h))) k (unlinked (links_in (entries_in (kept s order [])) h (parent_of e)) (parent_of e) k r)).size
               ≡ cond (is_named (page_left e) k) (r.size - length (handles_under (entries_in (kept s order [])) h)) r.size
           size-changed k r =
               let es = entries_in (kept s order []) in
@@ -243,7 +228,7 @@ module _ {D : Type 0} where
               by_test (is_named (page_left e) k) (length (handles_under es h)) (unlinked l (parent_of e) k r)
               ∙ ap (λ m. cond (is_named (page_left e) k) (m - length (handles_under es h)) m) (unlinked-size l (parent_of e) k r)
             where
-              by_test : (b : Bool) (n : ℕ) (x : Row D) → (cond b (smaller n x) x).size ≡ cond b (x.size - n) x.size
+              by_test : (b : Bool) (n : ℕ) (x : Row D) → (cond b (with_fewer_frames n x) x).size ≡ cond b (x.size - n) x.size
               by_test true n x = refl
               by_test false n x = refl
 
@@ -261,7 +246,7 @@ module _ {D : Type 0} where
               let es = entries_in (kept s order []) in
               let l = links_in es h (parent_of e) in
               let n = length (handles_under es h) in
-              let was = stayed s t (λ j. has_handle j (handles_under es h)) (λ j r. at (page_left e) (smaller n) j (unlinked l (parent_of e) j r)) changes-closed k x f in
+              let was = stayed s t (λ j. has_handle j (handles_under es h)) (λ j r. changed_at (page_left e) (with_fewer_frames n) j (unlinked l (parent_of e) j r)) changes-closed k x f in
               let fr = frame-of (entry_of es k) was.row.node (sym (found-live s order k is.listed is.nodes) ∙ ap (option_map (λ r. r.node)) was.found) in
               let ne : same_handle h k ≡ false = false_from_ne_true (same_handle h k) (λ t.
               true≢false (sym (root-goes es (tree-forest s order pages is) h e found) ∙ ap (λ j. has_handle j (handles_under es h)) ((same_handle-Decides h k).0 t) ∙ was.here)) in
@@ -269,7 +254,7 @@ module _ {D : Type 0} where
               (shrunk-links (filter (λ y. not (is_under h y)) es) (is_named (page_left e) k) n k (unlinked l (parent_of e) k was.row)
               (links-closed (kept s order []) is.nodes is.apart h e found (tree-forest s order pages is) k fr.entry fr.found ne was.here was.row (sym (ap (λ (m : Node D). m.parent) fr.node)) (is.linked k was.row was.found)))
             where
-              shrunk-links : (es : List (Entry D)) (b : Bool) (n : ℕ) (k : Handle) (r : Row D) → HasLinks es k r → HasLinks es k (cond b (smaller n r) r)
+              shrunk-links : (es : List (Entry D)) (b : Bool) (n : ℕ) (k : Handle) (r : Row D) → HasLinks es k r → HasLinks es k (cond b (with_fewer_frames n r) r)
               shrunk-links es true n k r has = has
               shrunk-links es false n k r has = has
 
@@ -278,7 +263,7 @@ module _ {D : Type 0} where
               let es = entries_in (kept s order []) in
               let ks = handles_under es h in
               let l = links_in es h (parent_of e) in
-              length-left s order pages is ks (λ x. not (is_under h x)) (top_of e) leaves-closed t (λ k r. at (page_left e) (smaller (length ks)) k (unlinked l (parent_of e) k r)) changes-closed
+              length-left s order pages is ks (λ x. not (is_under h x)) (top_of e) leaves-closed t (λ k r. changed_at (page_left e) (with_fewer_frames (length ks)) k (unlinked l (parent_of e) k r)) changes-closed
 
           module _ (swept : List Handle) (sweeps : Sweeps t order swept) where
             pub IsForest-closed : (count : ℕ) → count + cond (is_none (parent_of e)) 1 0 ≡ pages → IsForest t swept count
@@ -290,9 +275,9 @@ module _ {D : Type 0} where
                 let paged = is.paged in
                 let few = is.few in
                 IsForest-cut s t order pages is (λ k. has_handle k ks) (λ x. not (is_under h x))
-                (IsCut-left s order pages is ks (λ x. not (is_under h x)) (top_of e) leaves-closed t (λ k r. at (page_left e) (smaller (length ks)) k (unlinked l (parent_of e) k r)) changes-closed)
+                (IsCut-left s order pages is ks (λ x. not (is_under h x)) (top_of e) leaves-closed t (λ k r. changed_at (page_left e) (with_fewer_frames (length ks)) k (unlinked l (parent_of e) k r)) changes-closed)
                 swept sweeps count (omega (arith, less, gone, paged)) (omega (arith, less, few))
-                (sized-left s order pages is ks (λ x. not (is_under h x)) (top_of e) leaves-closed t (λ k r. at (page_left e) (smaller (length ks)) k (unlinked l (parent_of e) k r)) changes-closed (page_left e) size-changed page-named)
+                (sized-left s order pages is ks (λ x. not (is_under h x)) (top_of e) leaves-closed t (λ k r. changed_at (page_left e) (with_fewer_frames (length ks)) k (unlinked l (parent_of e) k r)) changes-closed (page_left e) size-changed page-named)
                 links-left
 
             pub entries-closed : (forest_in t swept).entries ≡ closed h (forest_in s order).entries
@@ -301,7 +286,7 @@ module _ {D : Type 0} where
                 let ks = handles_under es h in
                 let l = links_in es h (parent_of e) in
                 entries-cut s t order pages is (λ k. has_handle k ks) (λ x. not (is_under h x))
-                (IsCut-left s order pages is ks (λ x. not (is_under h x)) (top_of e) leaves-closed t (λ k r. at (page_left e) (smaller (length ks)) k (unlinked l (parent_of e) k r)) changes-closed)
+                (IsCut-left s order pages is ks (λ x. not (is_under h x)) (top_of e) leaves-closed t (λ k r. changed_at (page_left e) (with_fewer_frames (length ks)) k (unlinked l (parent_of e) k r)) changes-closed)
                 swept sweeps
 
             pub StayDead-closed : StayDead (forest_in s order) (forest_in t swept)
@@ -310,7 +295,7 @@ module _ {D : Type 0} where
                 let ks = handles_under es h in
                 let l = links_in es h (parent_of e) in
                 StayDead-cut s t order pages is (λ k. has_handle k ks) (λ x. not (is_under h x))
-                (IsCut-left s order pages is ks (λ x. not (is_under h x)) (top_of e) leaves-closed t (λ k r. at (page_left e) (smaller (length ks)) k (unlinked l (parent_of e) k r)) changes-closed)
+                (IsCut-left s order pages is ks (λ x. not (is_under h x)) (top_of e) leaves-closed t (λ k r. changed_at (page_left e) (with_fewer_frames (length ks)) k (unlinked l (parent_of e) k r)) changes-closed)
                 swept sweeps
 
             pub IsDead-closed : (k : Handle) → IsSome (entry_of (forest_in s order).entries k) → entry_of (forest_in t swept).entries k ≡ None → IsDead (forest_in t swept) k
@@ -319,5 +304,5 @@ module _ {D : Type 0} where
                 let ks = handles_under es h in
                 let l = links_in es h (parent_of e) in
                 IsDead-cut s t order pages is (λ k. has_handle k ks) (λ x. not (is_under h x))
-                (IsCut-left s order pages is ks (λ x. not (is_under h x)) (top_of e) leaves-closed t (λ k r. at (page_left e) (smaller (length ks)) k (unlinked l (parent_of e) k r)) changes-closed)
+                (IsCut-left s order pages is ks (λ x. not (is_under h x)) (top_of e) leaves-closed t (λ k r. changed_at (page_left e) (with_fewer_frames (length ks)) k (unlinked l (parent_of e) k r)) changes-closed)
                 swept sweeps

@@ -5,12 +5,12 @@ use Rattle.std.specs.Option.{option_map}
 use Rattle.pe_arena.specs.declared.handle.Handle.{Handle}
 use Rattle.pe_arena.specs.Slots.{Slots, live}
 use Rattle.pe_frames.specs.declared.row.Row.{Row}
-use Rattle.pe_frames.specs.declared.row.Standing.{Standing}
+use Rattle.pe_frames.specs.declared.row.FramePosition.{FramePosition}
 use Rattle.pe_frames.specs.Forest.{Forest, Entry, same_handle, has_handle, entry_of, IsDead, StayDead}
-use Rattle.pe_frames.specs.Order.{handles_under, docs_under, closed}
-use Rattle.pe_frames.specs.Links.{at, unlinked, smaller, docs_at, Rewrites, Removes}
-use Rattle.pe_frames.specs.Kept.{kept, entries_in, standing_in, AreOnce, Sweeps, IsSwept, forest_in, IsForest}
-use Rattle.pe_frames.proofs.Nodes.{same_handle-Decides}
+use Rattle.pe_frames.specs.Order.{handles_under, docs_under, closed, AreOnce}
+use Rattle.pe_frames.specs.Neighbours.{changed_at, unlinked, with_fewer_frames, docs_at, Rewrites, Removes}
+use Rattle.pe_frames.specs.Kept.{kept, entries_in, standing_in, Sweeps, IsSwept, forest_in, IsForest}
+use Rattle.pe_frames.proofs.Handles.{same_handle-Decides}
 use Rattle.std.proofs.lemmas.Bool.{false_from_ne_true}
 use Rattle.pe_frames.proofs.Standings.{stands-at}
 use Rattle.pe_frames.proofs.Under.{tree-forest, handles-once}
@@ -19,13 +19,13 @@ use Rattle.pe_frames.proofs.Documents.{docs-same, docs-below, before-join}
 
 module _ {D : Type 0} where
   -- the live frame stands here, and these are the handles of those below it
-  pub record LeavesAt (s : Slots (Row D)) (order : List Handle) (h : Handle) (here : Standing) (below : List Handle) : Type 0 where
+  pub record LeavesAt (s : Slots (Row D)) (order : List Handle) (h : Handle) (here : FramePosition) (below : List Handle) : Type 0 where
     pub entry : Entry D
     pub found : entry_of (entries_in (kept s order [])) h ≡ Some entry
     pub here_is : here ≡ standing_in (entries_in (kept s order [])) h entry
     pub all : h ∷ below ≡ handles_under (entries_in (kept s order [])) h
 
-  pub leaves-at : (s : Slots (Row D)) (order : List Handle) (f : Forest D) → forest_in s order ≡ f → (h : Handle) (o : Option Standing) (here : Standing) → o ≡ Some here → o ≡ option_map (standing_in f.entries h) (entry_of f.entries h)
+  pub leaves-at : (s : Slots (Row D)) (order : List Handle) (f : Forest D) → forest_in s order ≡ f → (h : Handle) (o : Option FramePosition) (here : FramePosition) → o ≡ Some here → o ≡ option_map (standing_in f.entries h) (entry_of f.entries h)
       → (below listed : List Handle) → h ∷ listed ≡ handles_under f.entries h → below ≡ listed → LeavesAt s order h here below
   leaves-at s order f view h o here some value below listed all same =
       let es = entries_in (kept s order []) in
@@ -37,7 +37,7 @@ module _ {D : Type 0} where
         all = ap (λ ks. h ∷ ks) same ∙ all ∙ ap (λ (g : Forest D). handles_under g.entries h) (sym view);
       }
 
-  module _ (s : Slots (Row D)) (order : List Handle) (pages : ℕ) (is : IsForest s order pages) (h : Handle) (here : Standing) (below : List Handle) (leaves : LeavesAt s order h here below) where
+  module _ (s : Slots (Row D)) (order : List Handle) (pages : ℕ) (is : IsForest s order pages) (h : Handle) (here : FramePosition) (below : List Handle) (leaves : LeavesAt s order h here below) where
     once-all : AreOnce (h ∷ below)
     once-all = subst AreOnce (sym leaves.all) (handles-once (entries_in (kept s order [])) (tree-forest s order pages is) h)
 
@@ -57,18 +57,18 @@ module _ {D : Type 0} where
     pages-left =
         let gone = pages-gone s order pages is h leaves.entry leaves.found in
         let paged = is.paged in
-        let same = ap {B = ℕ} (λ (x : Standing). cond (is_none x.parent) 1 0) leaves.here_is in
+        let same = ap {B = ℕ} (λ (x : FramePosition). cond (is_none x.parent) 1 0) leaves.here_is in
         omega (arith, gone, paged, same)
 
     module _ (one two : Slots (Row D)) (taken : Removes s one (h ∷ [])) (emptied : Removes one two below) where
       pub earlier-left : IfSome here.links.earlier (λ k. IsSome (live two k))
-      earlier-left = subst (λ (x : Standing). IfSome x.links.earlier (λ k. IsSome (live two k))) (sym leaves.here_is) (earlier-lives s order pages is h leaves.entry leaves.found below leaves.all one two taken emptied)
+      earlier-left = subst (λ (x : FramePosition). IfSome x.links.earlier (λ k. IsSome (live two k))) (sym leaves.here_is) (earlier-lives s order pages is h leaves.entry leaves.found below leaves.all one two taken emptied)
 
       pub later-left : IfSome here.links.later (λ k. IsSome (live two k))
-      later-left = subst (λ (x : Standing). IfSome x.links.later (λ k. IsSome (live two k))) (sym leaves.here_is) (later-lives s order pages is h leaves.entry leaves.found below leaves.all one two taken emptied)
+      later-left = subst (λ (x : FramePosition). IfSome x.links.later (λ k. IsSome (live two k))) (sym leaves.here_is) (later-lives s order pages is h leaves.entry leaves.found below leaves.all one two taken emptied)
 
       pub parent-left : IfSome here.parent (λ k. IsSome (live two k))
-      parent-left = subst (λ (x : Standing). IfSome x.parent (λ k. IsSome (live two k))) (sym leaves.here_is) (parent-lives s order pages is h leaves.entry leaves.found below leaves.all one two taken emptied)
+      parent-left = subst (λ (x : FramePosition). IfSome x.parent (λ k. IsSome (live two k))) (sym leaves.here_is) (parent-lives s order pages is h leaves.entry leaves.found below leaves.all one two taken emptied)
 
       -- the documents of all, in tree order
       pub docs-left : docs_at s (h ∷ []) ++ docs_at one below ≡ docs_under (entries_in (kept s order [])) h
@@ -80,10 +80,10 @@ module _ {D : Type 0} where
 
       module _ (three : Slots (Row D)) (mended : Rewrites two three (unlinked here.links here.parent)) (page : Option Handle) (left : page ≡ cond (is_none here.parent) None (Some here.top)) (n : ℕ) (many : n ≡ length below + 1) where
         mended-so : Rewrites two three (unlinked (standing_in (entries_in (kept s order [])) h leaves.entry).links (standing_in (entries_in (kept s order [])) h leaves.entry).parent)
-        mended-so = subst (λ (x : Standing). Rewrites two three (unlinked x.links x.parent)) leaves.here_is mended
+        mended-so = subst (λ (x : FramePosition). Rewrites two three (unlinked x.links x.parent)) leaves.here_is mended
 
         page-so : page ≡ cond (is_none (standing_in (entries_in (kept s order [])) h leaves.entry).parent) None (Some (standing_in (entries_in (kept s order [])) h leaves.entry).top)
-        page-so = left ∙ ap (λ (x : Standing). cond (is_none x.parent) None (Some x.top)) leaves.here_is
+        page-so = left ∙ ap (λ (x : FramePosition). cond (is_none x.parent) None (Some x.top)) leaves.here_is
 
         many-so : n ≡ length (handles_under (entries_in (kept s order [])) h)
         many-so = let m = ap length leaves.all in omega (arith, many, m)
@@ -96,9 +96,9 @@ module _ {D : Type 0} where
             (subst (λ m. IfSome (page_left leaves.entry) (λ k. IfSome (live three k) (λ r. m ≤ r.size))) (sym many-so)
             (page-large s order pages is h leaves.entry leaves.found below leaves.all one two taken emptied three mended-so))
 
-        module _ (t : Slots (Row D)) (shrunk : Rewrites three t (at page (smaller n))) where
-          shrunk-so : Rewrites three t (at (page_left leaves.entry) (smaller (length (handles_under (entries_in (kept s order [])) h))))
-          shrunk-so = subst (λ m. Rewrites three t (at (page_left leaves.entry) (smaller m))) many-so (subst (λ o. Rewrites three t (at o (smaller n))) page-so shrunk)
+        module _ (t : Slots (Row D)) (shrunk : Rewrites three t (changed_at page (with_fewer_frames n))) where
+          shrunk-so : Rewrites three t (changed_at (page_left leaves.entry) (with_fewer_frames (length (handles_under (entries_in (kept s order [])) h))))
+          shrunk-so = subst (λ m. Rewrites three t (changed_at (page_left leaves.entry) (with_fewer_frames m))) many-so (subst (λ o. Rewrites three t (changed_at o (with_fewer_frames n))) page-so shrunk)
 
           -- the dead handles, before the list is swept
           pub dead-left : (dead : ℕ) → IsSwept s order dead → length order ≡ length (kept t order []) + (dead + n)
@@ -111,7 +111,7 @@ module _ {D : Type 0} where
           module _ (swept : List Handle) (sweeps : Sweeps t order swept) where
             pub IsForest-left : (count : ℕ) → count + cond (is_none here.parent) 1 0 ≡ pages → IsForest t swept count
             IsForest-left count less = IsForest-closed s order pages is h leaves.entry leaves.found below leaves.all one two taken emptied three mended-so t shrunk-so swept sweeps count
-                (ap (λ (x : Standing). count + cond (is_none x.parent) 1 0) (sym leaves.here_is) ∙ less)
+                (ap (λ (x : FramePosition). count + cond (is_none x.parent) 1 0) (sym leaves.here_is) ∙ less)
 
             pub entries-left : (forest_in t swept).entries ≡ closed h (forest_in s order).entries
             entries-left = entries-closed s order pages is h leaves.entry leaves.found below leaves.all one two taken emptied three mended-so t shrunk-so swept sweeps

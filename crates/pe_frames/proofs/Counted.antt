@@ -6,9 +6,9 @@ use Rattle.pe_arena.specs.declared.handle.Handle.{Handle}
 use Rattle.pe_frames.specs.Forest.{Entry, same_handle, has_handle, first_of, top_of, entry_of, is_under, page_size, AreFrames}
 use Rattle.pe_frames.specs.Order.{children, in_tree_order, handles_under, AreOnce}
 use Rattle.pe_frames.specs.Walk.{visited, is_of_page}
-use Rattle.pe_frames.proofs.Lemmas.{some_same, agrees}
+use Rattle.pe_frames.proofs.Lemmas.{some_same, agrees, all-pass}
 use Rattle.std.proofs.lemmas.Bool.{and_from, and_parts, cases_Bool, false_from_ne_true, or_cases, or_right}
-use Rattle.pe_frames.proofs.Nodes.{same_handle-Decides, has-append}
+use Rattle.pe_frames.proofs.Handles.{has-append, same_handle-Decides}
 use Rattle.pe_frames.proofs.Below.{entry-handle}
 use Rattle.pe_frames.proofs.Tree.{Each, each-map, IsTree}
 use Rattle.pe_frames.proofs.TreeOrder.{walks, walk-is}
@@ -162,10 +162,6 @@ module _ {D : Type 0} where
       let right = handles-length (filter q ys) in
       omega (arith, few, many, left, right)
 
-  filter-all : (xs : List (Entry D)) → length (filter (λ x. true) xs) ≡ length xs
-  filter-all [] = refl
-  filter-all (x ∷ xs) = ap suc (filter-all xs)
-
   module _ (es : List (Entry D)) (are : AreFrames es) (tree : IsTree es DEPTH_LIMIT) where
     -- the root or below it, by what stands in tree order
     pub under-entry : (root k : Handle) (e : Entry D) → entry_of es k ≡ Some e → has_handle k (handles_under es root) ≡ is_under root e
@@ -226,7 +222,7 @@ module _ {D : Type 0} where
     pub counted-all : (root : Handle) → length (handles_under es root) ≡ length (filter (is_under root) es)
     counted-all root =
         handles-length (in_tree_order es root)
-        ∙ sym (filter-all (in_tree_order es root))
+        ∙ sym (all-pass (in_tree_order es root))
         ∙ same-count es (λ x. true) (is_under root) (in_tree_order es root) es (frames-live es tree root) (own-each es are) (handles-once es tree root) (own-once es are)
         (λ k e f t listed. (sym (under-entry root k e f) ∙ listed, live-listed es k e f))
         (λ k e f t listed. (refl, under-entry root k e f ∙ t))

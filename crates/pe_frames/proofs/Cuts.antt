@@ -8,15 +8,17 @@ use Rattle.pe_arena.specs.Slots.{Slot, Slots, live, mark}
 use Rattle.pe_frames.specs.declared.row.Row.{Row}
 use Rattle.pe_frames.specs.declared.node.Node.{Node}
 use Rattle.pe_frames.specs.Forest.{Entry, path, same_handle, has_handle, entry_of, node_in, parent_of, page_count, mark_of, IsDead, StayDead}
-use Rattle.pe_frames.specs.Links.{SameMarks}
-use Rattle.pe_frames.specs.Kept.{Kept, joined, kept, shown, node_at, above_in, entry_in, entries_in, AreNodes, AreApart, AreOnce, IsSized, HasLinks, Sweeps, forest_in, IsForest}
-use Rattle.pe_frames.proofs.Nodes.{same_handle-Decides, same_or_other, entries-nodes, found-live, other-turned}
+use Rattle.pe_frames.specs.Neighbours.{SameMarks}
+use Rattle.pe_frames.specs.Order.{AreOnce}
+use Rattle.pe_frames.specs.Kept.{Kept, joined, kept, shown, node_at, above_in, entry_in, entries_in, AreNodes, AreApart, IsSized, HasLinks, Sweeps, forest_in, IsForest}
+use Rattle.pe_frames.proofs.Nodes.{entries-nodes, found-live}
+use Rattle.pe_frames.proofs.Handles.{other-turned, same_handle-Decides, same_or_other}
 use Rattle.pe_frames.proofs.Pages.{entry-absent}
 use Rattle.std.proofs.lemmas.Bool.{false_from_ne_true, cases_Bool}
 use Rattle.pe_frames.proofs.Tree.{Each}
 use Rattle.pe_frames.proofs.Writes.{mark-kept, slots-kept}
 use Rattle.std.proofs.Math.Bool.{or-true}
-use Rattle.pe_frames.proofs.Lemmas.{some_same}
+use Rattle.pe_frames.proofs.Lemmas.{some_same, node_some}
 
 -- two tests that agree on each of the list keep the same
 pub filter-agree : {A : Type 0} (p q : A → Bool) (xs : List A) → Each (λ x. p x ≡ q x) xs → filter p xs ≡ filter q xs
@@ -268,10 +270,6 @@ module _ {D : Type 0} where
       by_head : (entry_of es k ≡ None → entry_of (filter p es) k ≡ None) → (b : Bool) → same_handle x.handle k ≡ b → cond b (Some x) (entry_of es k) ≡ None → entry_of (cond (p x) (x ∷ filter p es) (filter p es)) k ≡ None
       by_head rest true f q = absurd (true≢false (ap is_some q))
       by_head rest false f q = by_test (p x) f (rest q)
-
-  node_some : (o : Option (Entry D)) → IsSome o → IsSome (option_map node_in o)
-  node_some None p = p
-  node_some (Some e) p = refl
 
   module _ (s t : Slots (Row D)) (order : List Handle) (pages : ℕ) (is : IsForest s order pages) (gone : Handle → Bool) (stays : Entry D → Bool) (cut : IsCut s t order gone stays) (swept : List Handle) (sweeps : Sweeps t order swept) where
     each-agrees : Each (λ e. stays e ≡ not (gone e.handle)) (entries_in (kept s order []))

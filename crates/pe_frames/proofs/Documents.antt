@@ -7,9 +7,10 @@ use Rattle.pe_frames.specs.declared.row.Row.{Row}
 use Rattle.pe_frames.specs.declared.node.Node.{Node}
 use Rattle.pe_frames.specs.Forest.{Entry, same_handle, has_handle, entry_of, node_in}
 use Rattle.pe_frames.specs.Order.{in_tree_order, handles_under, docs_under}
-use Rattle.pe_frames.specs.Links.{doc_before, docs_at}
+use Rattle.pe_frames.specs.Neighbours.{doc_before, docs_at}
 use Rattle.pe_frames.specs.Kept.{kept, entries_in, IsForest}
-use Rattle.pe_frames.proofs.Nodes.{same_handle-Decides, found-live}
+use Rattle.pe_frames.proofs.Nodes.{found-live}
+use Rattle.pe_frames.proofs.Handles.{same_handle-Decides}
 use Rattle.pe_frames.proofs.Tree.{Each}
 use Rattle.pe_frames.proofs.Under.{tree-forest, frames-live}
 use Rattle.std.proofs.Math.Bool.{or-true}

@@ -1,16 +1,16 @@
 -- Parents and children that live.
-use Rattle.std.proofs.Common.{◌≡◌, ◌≢◌, Bool, true, false, cond, List, [], ◌∷◌, Option, None, Some, IsSome, is_some, refl, sym, ap, ◌∙◌, true≢false}
+use Rattle.std.proofs.Common.{◌≡◌, ◌≢◌, Bool, true, false, cond, List, [], ◌∷◌, Option, None, Some, is_some, refl, sym, ap, ◌∙◌, true≢false}
 use Rattle.std.specs.Option.{option_map}
 use Rattle.pe_arena.specs.declared.handle.Handle.{Handle}
-use Rattle.pe_frames.specs.declared.node.Node.{Node}
 use Rattle.pe_frames.specs.Forest.{Entry, same_handle, has_handle, last_of, parent_of, entry_of, node_in}
-use Rattle.pe_frames.specs.Order.{is_named, head_of, after, is_child, child_handles, next_child_of}
-use Rattle.pe_frames.specs.Links.{before, young, siblings}
-use Rattle.pe_frames.specs.Kept.{Kept, node_at, above_in, entry_in, entries_in, AreNodes, AreApart, AreOnce, standing_in}
-use Rattle.pe_frames.proofs.Nodes.{same_handle-Decides, entries-nodes}
-use Rattle.pe_frames.proofs.Pages.{Above, above-of, nothing, below, entry-absent}
+use Rattle.pe_frames.specs.Order.{is_named, head_of, after, is_child, child_handles, next_child_of, AreOnce}
+use Rattle.pe_frames.specs.Neighbours.{before, children_newest_first, siblings}
+use Rattle.pe_frames.specs.Kept.{Kept, node_at, above_in, entry_in, entries_in, AreNodes, AreApart, standing_in}
+use Rattle.pe_frames.proofs.Nodes.{entries-nodes}
+use Rattle.pe_frames.proofs.Handles.{same_handle-Decides, last-push}
+use Rattle.pe_frames.proofs.Pages.{Above, above-of, nothing, below, entry-absent, node_absent}
 use Rattle.std.proofs.lemmas.Bool.{false_from_ne_true}
-use Rattle.pe_frames.proofs.Below.{last-push, entry-handle}
+use Rattle.pe_frames.proofs.Below.{entry-handle}
 use Rattle.pe_frames.proofs.Children.{born, first-child, later-child, later-none}
 use Rattle.pe_frames.proofs.Lemmas.{some_same}
 
@@ -24,33 +24,29 @@ module _ {D : Type 0} where
   node-absent xs are k e = sym (entries-nodes xs k are) ∙ absent_node (entry_of (entries_in xs) k) e
 
   -- a handle that is not kept is no child
-  pub child-absent : (xs : List (Kept D)) → AreNodes xs → AreApart xs → (p k : Handle) → node_at xs k ≡ None → has_handle k (young (entries_in xs) p) ≡ false
-  child-absent xs are apart p k e = false_from_ne_true (has_handle k (young (entries_in xs) p)) (λ t.
+  pub child-absent : (xs : List (Kept D)) → AreNodes xs → AreApart xs → (p k : Handle) → node_at xs k ≡ None → has_handle k (children_newest_first (entries_in xs) p) ≡ false
+  child-absent xs are apart p k e = false_from_ne_true (has_handle k (children_newest_first (entries_in xs) p)) (λ t.
       let b = born xs p k are apart t in
       true≢false (sym (ap is_some b.found) ∙ ap is_some e))
 
   -- nothing is a child twice
-  pub children-once : (xs : List (Kept D)) → AreNodes xs → AreApart xs → (p : Handle) → AreOnce (young (entries_in xs) p)
+  pub children-once : (xs : List (Kept D)) → AreNodes xs → AreApart xs → (p : Handle) → AreOnce (children_newest_first (entries_in xs) p)
   children-once [] are apart p = tt
   children-once (x ∷ xs) are apart p = by_test (is_child p (entry_in (entries_in xs) x)) (children-once xs are.1 apart.1 p)
     where
-      by_test : (b : Bool) → AreOnce (young (entries_in xs) p) → AreOnce (cond b (x.handle ∷ young (entries_in xs) p) (young (entries_in xs) p))
+      by_test : (b : Bool) → AreOnce (children_newest_first (entries_in xs) p) → AreOnce (cond b (x.handle ∷ children_newest_first (entries_in xs) p) (children_newest_first (entries_in xs) p))
       by_test true rest = (child-absent xs are.1 apart.1 p x.handle apart.0, rest)
       by_test false rest = rest
 
   found_or_not : (o : Option (Entry D)) (t : Entry D) → o ≡ Some t → o ≡ None → ⊥
   found_or_not o t e f = true≢false (sym (ap is_some e) ∙ ap is_some f)
 
-  node_parts : (b : Bool) (o rest : Option (Node D)) → IsSome o → cond b o rest ≡ None → (b ≡ false) × (rest ≡ None)
-  node_parts true o rest p e = absurd (true≢false (sym p ∙ ap is_some e))
-  node_parts false o rest p e = (refl, e)
-
   -- a handle that is not kept has no child
-  pub childless : (xs : List (Kept D)) → AreNodes xs → AreApart xs → (p : Handle) → node_at xs p ≡ None → young (entries_in xs) p ≡ []
+  pub childless : (xs : List (Kept D)) → AreNodes xs → AreApart xs → (p : Handle) → node_at xs p ≡ None → children_newest_first (entries_in xs) p ≡ []
   childless [] are apart p e = refl
   childless (x ∷ xs) are apart p e =
-      let parts = node_parts (same_handle x.handle p) (Some x.node) (node_at xs p) refl e in
-      ap (λ b. cond b (x.handle ∷ young (entries_in xs) p) (young (entries_in xs) p)) (other parts.1 (above-of (entries_in xs) x.node.parent))
+      let parts = node_absent (same_handle x.handle p) (Some x.node) (node_at xs p) refl e in
+      ap (λ b. cond b (x.handle ∷ children_newest_first (entries_in xs) p) (children_newest_first (entries_in xs) p)) (other parts.1 (above-of (entries_in xs) x.node.parent))
       ∙ childless xs are.1 apart.1 p parts.1
     where
       other : node_at xs p ≡ None → Above (entries_in xs) (above_in (entries_in xs) x.node.parent) → is_named (last_of (above_in (entries_in xs) x.node.parent)) p ≡ false
@@ -78,7 +74,7 @@ module _ {D : Type 0} where
 
     -- nor behind the child of another
     pub child-other : (k : Handle) (e : Entry D) → entry_of (entries_in xs) k ≡ Some e → parent_of e ≢ Some p → after k (child_handles (entries_in xs) p) ≡ None
-    child-other k e f ne = later-none (entries_in xs) p k (false_from_ne_true (has_handle k (young (entries_in xs) p)) (λ t.
+    child-other k e f ne = later-none (entries_in xs) p k (false_from_ne_true (has_handle k (children_newest_first (entries_in xs) p)) (λ t.
         let b = born xs p k are apart t in
         let same : node_in e ≡ b.node = some_same (sym (ap (option_map node_in) f) ∙ entries-nodes xs k are ∙ b.found) in
         ne (ap (λ n. n.parent) same ∙ b.parent)))

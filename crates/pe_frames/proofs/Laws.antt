@@ -9,13 +9,14 @@ use Rattle.pe_frames.specs.declared.row.Row.{Row}
 use Rattle.pe_frames.specs.Forest.{Entry, Forest, has_handle, same_handle, path, depth_of, entry_of, node_in, is_under, AreFrames, AreGiven}
 use Rattle.pe_frames.specs.Order.{in_tree_order, handles_under, docs_under, AreOnce}
 use Rattle.pe_frames.specs.Kept.{Kept, kept, above_in, entry_in, entries_in, AreNodes, AreApart, forest_in, IsForest}
-use Rattle.pe_frames.proofs.Nodes.{same_or_other, found-live}
+use Rattle.pe_frames.proofs.Nodes.{found-live}
+use Rattle.pe_frames.proofs.Handles.{same_or_other}
 use Rattle.pe_frames.proofs.Pages.{Above, above-of, nothing, below, entry-absent}
 use Rattle.pe_frames.proofs.Opened.{mark-seen}
 use Rattle.pe_frames.proofs.Tree.{Each, IsTree, stays, newest}
 use Rattle.pe_frames.proofs.Subtrees.{under-other}
 use Rattle.pe_frames.proofs.Under.{tree-forest, handles-live, handles-all, handles-once, frames-live}
-use Rattle.pe_frames.proofs.Lemmas.{some_same}
+use Rattle.pe_frames.proofs.Lemmas.{some_same, node_some}
 
 module _ {D : Type 0} where
   -- each kept frame was new before those behind it
@@ -100,10 +101,6 @@ module _ {D : Type 0} where
         let given = is.given h (is.listed h (ap is_some (found-live s order h is.listed is.nodes) ∙ node_some (entry_of (entries_in (kept s order [])) h) live)) in
         let seen = mark-seen order s h.slot is.first in
         omega (arith, given, seen)
-      where
-        node_some : (o : Option (Entry D)) → IsSome o → is_some (option_map node_in o) ≡ true
-        node_some None p = p
-        node_some (Some e) p = refl
 
     pub laws-forest : (f : Forest D) → forest_in s order ≡ f → Laws f
     laws-forest f q = subst Laws q (record {

@@ -7,12 +7,13 @@ use Rattle.pe_arena.specs.Slots.{Slots, live}
 use Rattle.pe_frames.specs.declared.row.Row.{Row}
 use Rattle.pe_frames.specs.declared.node.Node.{Node}
 use Rattle.pe_frames.specs.Forest.{Entry, same_handle, has_handle, entry_of, parent_of, top_of, is_top, page_size, page_count}
-use Rattle.pe_frames.specs.Order.{is_named}
-use Rattle.pe_frames.specs.Links.{SameMarks}
-use Rattle.pe_frames.specs.Kept.{kept, shown, entries_in, AreOnce, IsSized, IsForest}
-use Rattle.pe_frames.proofs.Nodes.{same_handle-Decides}
+use Rattle.pe_frames.specs.Order.{is_named, AreOnce}
+use Rattle.pe_frames.specs.Neighbours.{SameMarks}
+use Rattle.pe_frames.specs.Kept.{kept, shown, entries_in, IsSized, IsForest}
+use Rattle.pe_frames.proofs.Handles.{same_handle-Decides}
 use Rattle.pe_frames.proofs.Cuts.{IsCut, count-less, length-entries, length-cut, Sweeps-none}
-use Rattle.pe_frames.proofs.Lemmas.{not_not, some_same}
+use Rattle.pe_frames.proofs.Lemmas.{not_not, some_same, all-pass}
+use Rattle.std.proofs.Math.Bool.{and-false}
 
 module _ {D : Type 0} where
   -- the rows of some handles are gone, and each other row was changed, but for its node
@@ -60,11 +61,7 @@ module _ {D : Type 0} where
       where
         by_test : (x : Entry D) (b : Bool) → (b ≡ true → top_of x ≡ top) → (same_handle (top_of x) top && not (not b)) ≡ b
         by_test x true q = ap (λ c. c && true) ((same_handle-Decides (top_of x) top).1 (q refl))
-        by_test x false q = none (same_handle (top_of x) top)
-          where
-            none : (c : Bool) → (c && false) ≡ false
-            none true = refl
-            none false = refl
+        by_test x false q = and-false (same_handle (top_of x) top)
 
     -- and each other page is as it was
     pub page-other : (k : Handle) → same_handle top k ≡ false → page_size (entries_in (kept s order [])) k ≡ page_size (filter stays (entries_in (kept s order []))) k
@@ -73,13 +70,9 @@ module _ {D : Type 0} where
         (λ x f. ap (λ b. same_handle (top_of x) k && not b) (leaves.agree x f) ∙ by_test x (has_handle x.handle ks) (λ t. leaves.page x f t)) in
         omega (arith, same)
       where
-        none : (c : Bool) → (c && false) ≡ false
-        none true = refl
-        none false = refl
-
         by_test : (x : Entry D) (b : Bool) → (b ≡ true → top_of x ≡ top) → (same_handle (top_of x) k && not (not b)) ≡ false
         by_test x true q = ap (λ c. c && true) (ap (λ j. same_handle j k) (q refl) ∙ other)
-        by_test x false q = none (same_handle (top_of x) k)
+        by_test x false q = and-false (same_handle (top_of x) k)
 
     -- the frames are so many fewer
     all-less : length (entries_in (kept s order [])) ≡ length (filter stays (entries_in (kept s order []))) + length ks
@@ -88,10 +81,6 @@ module _ {D : Type 0} where
         let old = all-pass (entries_in (kept s order [])) in
         let new = all-pass (filter stays (entries_in (kept s order []))) in
         omega (arith, less, old, new)
-      where
-        all-pass : (xs : List (Entry D)) → length (filter (λ x. true) xs) ≡ length xs
-        all-pass [] = refl
-        all-pass (x ∷ xs) = let rest = all-pass xs in omega (arith, rest)
 
     -- where no top frame leaves, the pages are as many as before
     pub pages-same : ((x : Entry D) → entry_of (entries_in (kept s order [])) x.handle ≡ Some x → has_handle x.handle ks ≡ true → is_top x ≡ false) → page_count (entries_in (kept s order [])) ≡ page_count (filter stays (entries_in (kept s order [])))
@@ -100,13 +89,9 @@ module _ {D : Type 0} where
         (λ x f. ap (λ b. is_top x && not b) (leaves.agree x f) ∙ by_test x (has_handle x.handle ks) (λ t. low x f t)) in
         omega (arith, same)
       where
-        none : (c : Bool) → (c && false) ≡ false
-        none true = refl
-        none false = refl
-
         by_test : (x : Entry D) (b : Bool) → (b ≡ true → is_top x ≡ false) → (is_top x && not (not b)) ≡ false
         by_test x true q = ap (λ c. c && true) (q refl)
-        by_test x false q = none (is_top x)
+        by_test x false q = and-false (is_top x)
 
     -- where the one of this handle leaves, there is one page less
     pub pages-one : (h : Handle) → IsSome (entry_of (entries_in (kept s order [])) h) → ((x : Entry D) → entry_of (entries_in (kept s order [])) x.handle ≡ Some x → (is_top x && has_handle x.handle ks) ≡ same_handle h x.handle) → page_count (entries_in (kept s order [])) ≡ page_count (filter stays (entries_in (kept s order []))) + 1

@@ -1,6 +1,9 @@
 -- Facts about truth values and options.
-use Rattle.std.proofs.Common.{◌≡◌, Bool, true, false, Option, None, Some, refl, sym, true≢false}
-use Rattle.std.specs.Prelude.{IfSome, not}
+use Rattle.std.proofs.Common.{◌≡◌, suc, Bool, true, false, List, [], ◌∷◌, length, Option, None, Some, IsSome, is_some, refl, sym, ap, true≢false}
+use Rattle.std.specs.Prelude.{IfSome, filter, not}
+use Rattle.std.specs.Option.{option_map}
+use Rattle.pe_frames.specs.declared.row.Row.{Row}
+use Rattle.pe_frames.specs.Forest.{Entry, node_in}
 
 pub some_same : {A : Type 0} {a b : A} → Some a ≡ Some b → a ≡ b
 some_same q = cc
@@ -20,3 +23,22 @@ not_not false = refl
 pub if_each : {A : Type 0} (P : A → Type 0) (o : Option A) → ((x : A) → o ≡ Some x → P x) → IfSome o P
 if_each P None f = tt
 if_each P (Some x) f = f x refl
+
+pub no_value : {A : Type 0} (o : Option A) → is_some o ≡ false → o ≡ None
+no_value None t = refl
+no_value (Some x) t = absurd (true≢false t)
+
+-- each of a list passes the test that all pass
+pub all-pass : {A : Type 0} (xs : List A) → length (filter (λ x. true) xs) ≡ length xs
+all-pass [] = refl
+all-pass (x ∷ xs) = ap suc (all-pass xs)
+
+module _ {D : Type 0} where
+  -- what has a node is there
+  pub some_row : (o : Option (Row D)) → IsSome (option_map (λ r. r.node) o) → IsSome o
+  some_row None p = p
+  some_row (Some r) p = refl
+
+  pub node_some : (o : Option (Entry D)) → IsSome o → IsSome (option_map node_in o)
+  node_some None p = p
+  node_some (Some e) p = refl

@@ -10,6 +10,7 @@ pub mod Counted
 pub mod Cuts
 pub mod Documents
 pub mod Embedded
+pub mod Handles
 pub mod Kin
 pub mod Laws
 pub mod Leaving

@@ -1,40 +1,13 @@
 -- The nodes of an arena as the list of frames.
-use Rattle.std.proofs.Common.{◌++◌, ◌≡◌, ◌⊎◌, inl, inr, ◌-◌, ◌^◌, Bool, true, false, cond, ◌||◌, List, [], ◌∷◌, Option, None, Some, IsSome, is_some, refl, sym, ap, ◌∙◌, arith, true≢false}
-use Rattle.std.specs.Prelude.{◌==◌}
-use Rattle.std.specs.Bool.{Decides}
+use Rattle.std.proofs.Common.{◌≡◌, inl, inr, ◌-◌, ◌^◌, Bool, true, false, cond, ◌||◌, List, [], ◌∷◌, Option, None, Some, IsSome, is_some, refl, sym, ap, ◌∙◌, arith, true≢false}
 use Rattle.std.specs.Option.{option_map, option_and_then}
-use Rattle.std.proofs.Math.Bool.{or-false}
-use Rattle.std.proofs.lemmas.Bool.{false_from_ne_true}
-use Rattle.std.proofs.lemmas.Bool.Decides.{Decides-eqb, Decides-and}
 use Rattle.pe_arena.specs.declared.handle.Handle.{Handle}
 use Rattle.pe_arena.specs.Slots.{Slots}
 use Rattle.pe_frames.specs.declared.row.Row.{Row}
 use Rattle.pe_frames.specs.declared.node.Node.{Node}
 use Rattle.pe_frames.specs.Forest.{Entry, same_handle, has_handle, entry_of, node_in, node_of, parent_of, top_of}
 use Rattle.pe_frames.specs.Kept.{Kept, joined, kept, shown, node_at, entry_in, entries_in, AreNodes, forest_in, IsForest, IsSwept}
-
-pub same_handle-Decides : (a b : Handle) → Decides (same_handle a b) (a ≡ b)
-same_handle-Decides a b =
-    let d = Decides-and (a.slot == b.slot) (a.generation == b.generation) (Decides-eqb a.slot b.slot) (Decides-eqb a.generation b.generation) in
-    (λ e. let p = d.0 e in λ i. record { slot = p.0 i; generation = p.1 i }, λ e. d.1 (ap (λ h. h.slot) e, ap (λ h. h.generation) e))
-
--- the two are one handle, or they are not
-pub same_or_other : (a b : Handle) → (same_handle a b ≡ true) ⊎ (same_handle a b ≡ false)
-same_or_other a b = (elim (same_handle a b) as (λ t. same_handle a b ≡ t → (same_handle a b ≡ true) ⊎ (same_handle a b ≡ false)) [ true ↦ inl | false ↦ inr ]) refl
-
-pub has-append : (k : Handle) (a b : List Handle) → has_handle k (a ++ b) ≡ (has_handle k a || has_handle k b)
-has-append k [] b = refl
-has-append k (x ∷ a) b = ap (λ t. same_handle x k || t) (has-append k a b) ∙ regroup (same_handle x k) (has_handle k a) (has_handle k b)
-  where
-    regroup : (u v w : Bool) → (u || (v || w)) ≡ ((u || v) || w)
-    regroup true v w = refl
-    regroup false v w = refl
-
-pub has-push : (k h : Handle) (hs : List Handle) → has_handle k (hs ++ h ∷ []) ≡ (has_handle k hs || same_handle h k)
-has-push k h hs = has-append k hs (h ∷ []) ∙ ap (λ b. has_handle k hs || b) (or-false (same_handle h k))
-
-pub other-turned : (a b : Handle) → same_handle a b ≡ false → same_handle b a ≡ false
-other-turned a b e = false_from_ne_true (same_handle b a) (λ t. true≢false (sym ((same_handle-Decides a b).1 (sym ((same_handle-Decides b a).0 t))) ∙ e))
+use Rattle.pe_frames.proofs.Handles.{same_handle-Decides, same_or_other}
 
 module _ {D : Type 0} where
   joined-other : (k h : Handle) (o : Option (Node D)) (xs : List (Kept D)) → same_handle k h ≡ false → node_at (joined k o xs) h ≡ node_at xs h

@@ -8,10 +8,11 @@ use Rattle.pe_frames.specs.declared.row.Row.{Row}
 use Rattle.pe_frames.specs.declared.node.Node.{Node}
 use Rattle.pe_frames.specs.Forest.{Entry, top_of, same_handle, has_handle, entry_of, node_in, mark_of, page_count, Gives, StayDead}
 use Rattle.pe_frames.specs.Kept.{Kept, joined, kept, entry_in, entries_in, shown, node_at, AreNodes, AreApart, IsSized, HasLinks, forest_in, IsForest, IsSwept}
-use Rattle.pe_frames.specs.Links.{Rewrites}
+use Rattle.pe_frames.specs.Neighbours.{Rewrites}
 use Rattle.pe_frames.proofs.Writes.{different, mark-kept, slots-kept}
 use Rattle.pe_frames.proofs.Pages.{entry-absent, page-empty, page-more, page-same}
-use Rattle.pe_frames.proofs.Nodes.{has-push, kept-live, same_handle-Decides, same_or_other}
+use Rattle.pe_frames.proofs.Nodes.{kept-live}
+use Rattle.pe_frames.proofs.Handles.{has-push, same_handle-Decides, same_or_other}
 use Rattle.std.proofs.lemmas.Bool.{false_from_ne_true, or_cases, or_parts}
 use Rattle.std.proofs.Math.Bool.{or-true}
 use Rattle.pe_frames.proofs.Lemmas.{some_same}

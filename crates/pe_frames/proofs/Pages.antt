@@ -1,18 +1,15 @@
 -- Top frames, and how many frames their pages have.
-use Rattle.std.proofs.Common.{◌≡◌, inl, inr, ◌+◌, Bool, true, false, cond, List, [], ◌∷◌, ◌++◌, length, Option, None, Some, IsSome, is_some, refl, sym, ap, subst, ◌∙◌, arith, true≢false}
+use Rattle.std.proofs.Common.{◌≡◌, inl, inr, ◌+◌, Bool, true, false, cond, List, [], ◌∷◌, length, Option, None, Some, IsSome, is_some, refl, sym, ap, subst, ◌∙◌, arith, true≢false}
 use Rattle.std.specs.Prelude.{filter, unwrap_or}
 use Rattle.std.specs.Option.{option_map}
 use Rattle.pe_arena.specs.declared.handle.Handle.{Handle}
 use Rattle.pe_frames.specs.declared.node.Node.{Node}
 use Rattle.pe_frames.specs.Forest.{Entry, path, same_handle, entry_of, node_in, top_of, first_of, page_size}
 use Rattle.pe_frames.specs.Kept.{Kept, node_at, above_in, entry_in, entries_in, AreNodes, AreApart}
-use Rattle.pe_frames.proofs.Nodes.{same_handle-Decides, same_or_other, entries-nodes}
+use Rattle.pe_frames.proofs.Nodes.{entries-nodes}
+use Rattle.pe_frames.proofs.Handles.{same_handle-Decides, same_or_other, first-push}
 use Rattle.std.proofs.lemmas.Bool.{false_from_ne_true}
 use Rattle.pe_frames.proofs.Lemmas.{some_same}
-
-pub first-push : (ks : List Handle) (k h : Handle) → first_of (ks ++ k ∷ []) h ≡ first_of ks k
-first-push [] k h = refl
-first-push (x ∷ ks) k h = refl
 
 module _ {D : Type 0} where
   -- the handle names a top frame
@@ -87,7 +84,7 @@ module _ {D : Type 0} where
   pub page-same : (e : Entry D) (es : List (Entry D)) (k : Handle) → same_handle (top_of e) k ≡ false → page_size (e ∷ es) k ≡ page_size es k
   page-same e es k t = ap (λ b. length (cond b (e ∷ filter (λ y. same_handle (top_of y) k) es) (filter (λ y. same_handle (top_of y) k) es))) t
 
-  node_absent : (b : Bool) (o rest : Option (Node D)) → IsSome o → cond b o rest ≡ None → (b ≡ false) × (rest ≡ None)
+  pub node_absent : (b : Bool) (o rest : Option (Node D)) → IsSome o → cond b o rest ≡ None → (b ≡ false) × (rest ≡ None)
   node_absent true o rest p e = absurd (true≢false (sym p ∙ ap is_some e))
   node_absent false o rest p e = (refl, e)
 

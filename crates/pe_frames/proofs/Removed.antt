@@ -7,9 +7,10 @@ use Rattle.pe_arena.specs.declared.handle.Handle.{Handle}
 use Rattle.pe_arena.specs.Slots.{Slot, Slots, live, mark, emptied, Updates}
 use Rattle.pe_frames.specs.declared.row.Row.{Row}
 use Rattle.pe_frames.specs.Forest.{same_handle, has_handle}
-use Rattle.pe_frames.specs.Links.{SameMarks, Removes, doc_before, docs_at}
-use Rattle.pe_frames.specs.Kept.{Kept, joined, shown, kept, Sweeps, IsSwept, AreOnce}
-use Rattle.pe_frames.proofs.Nodes.{has-push, same_handle-Decides, same_or_other}
+use Rattle.pe_frames.specs.Neighbours.{SameMarks, Removes, doc_before, docs_at}
+use Rattle.pe_frames.specs.Order.{AreOnce}
+use Rattle.pe_frames.specs.Kept.{Kept, joined, shown, kept, Sweeps, IsSwept}
+use Rattle.pe_frames.proofs.Handles.{has-push, same_handle-Decides, same_or_other}
 use Rattle.pe_frames.proofs.Writes.{map-set_same, different, SameMarks-refl, SameMarks-then}
 use Rattle.std.proofs.Math.Bool.{or-true}
 use Rattle.std.proofs.lemmas.Bool.{or_right}

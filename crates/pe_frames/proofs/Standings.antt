@@ -4,17 +4,17 @@ use Rattle.std.specs.Option.{option_map}
 use Rattle.pe_arena.specs.declared.handle.Handle.{Handle}
 use Rattle.pe_arena.specs.Slots.{Slots, live}
 use Rattle.pe_frames.specs.declared.row.Row.{Row}
-use Rattle.pe_frames.specs.declared.row.Standing.{Standing}
+use Rattle.pe_frames.specs.declared.row.FramePosition.{FramePosition}
 use Rattle.pe_frames.specs.declared.node.Node.{Node}
 use Rattle.pe_frames.specs.Forest.{Entry, entry_of, node_in}
-use Rattle.pe_frames.specs.Links.{links_in}
+use Rattle.pe_frames.specs.Neighbours.{links_in}
 use Rattle.pe_frames.specs.Kept.{kept, entries_in, standing_in, HasLinks, IsForest}
 use Rattle.pe_frames.proofs.Nodes.{found-live}
 use Rattle.pe_frames.proofs.Lemmas.{some_same}
 
 module _ {D : Type 0} where
   -- where the frame of a row stands
-  abbrev pub standing_row : Row D → Standing
+  abbrev pub standing_row : Row D → FramePosition
   standing_row r = record { parent = r.node.parent; top = r.node.top; depth = r.node.depth; links = r.links }
 
   by_node : (es : List (Entry D)) (h : Handle) (o : Option (Row D)) (e : Option (Entry D)) → ((r : Row D) → o ≡ Some r → HasLinks es h r) → option_map (λ r. r.node) o ≡ option_map node_in e → option_map standing_row o ≡ option_map (standing_in es h) e
@@ -31,7 +31,7 @@ module _ {D : Type 0} where
   standing-live s order pages is h = by_node (entries_in (kept s order [])) h (live s h) (entry_of (entries_in (kept s order [])) h) (λ r e. is.linked h r e) (found-live s order h is.listed is.nodes)
 
   -- nothing stands at a handle of no frame
-  pub no-entry : (es : List (Entry D)) (h : Handle) (o : Option Standing) → o ≡ None → o ≡ option_map (standing_in es h) (entry_of es h) → entry_of es h ≡ None
+  pub no-entry : (es : List (Entry D)) (h : Handle) (o : Option FramePosition) → o ≡ None → o ≡ option_map (standing_in es h) (entry_of es h) → entry_of es h ≡ None
   no-entry es h o e q = none (entry_of es h) (sym q ∙ e)
     where
       none : (x : Option (Entry D)) → option_map (standing_in es h) x ≡ None → x ≡ None
@@ -39,12 +39,12 @@ module _ {D : Type 0} where
       none (Some x) f = absurd (true≢false (ap is_some f))
 
   -- the frame that stands at the handle
-  pub record StandsAt (es : List (Entry D)) (h : Handle) (here : Standing) : Type 0 where
+  pub record StandsAt (es : List (Entry D)) (h : Handle) (here : FramePosition) : Type 0 where
     pub entry : Entry D
     pub found : entry_of es h ≡ Some entry
     pub is : here ≡ standing_in es h entry
 
-  pub stands-at : (es : List (Entry D)) (h : Handle) (o : Option Standing) (here : Standing) → o ≡ Some here → o ≡ option_map (standing_in es h) (entry_of es h) → StandsAt es h here
+  pub stands-at : (es : List (Entry D)) (h : Handle) (o : Option FramePosition) (here : FramePosition) → o ≡ Some here → o ≡ option_map (standing_in es h) (entry_of es h) → StandsAt es h here
   stands-at es h o here e q = by_entry (entry_of es h) refl (sym e ∙ q)
     where
       by_entry : (x : Option (Entry D)) → entry_of es h ≡ x → Some here ≡ option_map (standing_in es h) x → StandsAt es h here

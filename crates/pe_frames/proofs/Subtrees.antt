@@ -4,7 +4,7 @@ use Rattle.std.proofs.lemmas.List.{append-nil}
 use Rattle.pe_arena.specs.declared.handle.Handle.{Handle}
 use Rattle.pe_frames.specs.Forest.{Entry, same_handle, has_handle, last_of, path, parent_of, entry_of, is_under}
 use Rattle.pe_frames.specs.Order.{children}
-use Rattle.pe_frames.proofs.Nodes.{same_handle-Decides, same_or_other, has-append}
+use Rattle.pe_frames.proofs.Handles.{has-append, same_handle-Decides, same_or_other}
 use Rattle.pe_frames.proofs.Below.{entry-handle}
 use Rattle.pe_frames.proofs.Tree.{IsTree}
 use Rattle.pe_frames.proofs.TreeOrder.{walk, walks, walks-append, walk-is}

@@ -7,9 +7,10 @@ use Rattle.pe_arena.specs.Slots.{Slots, live, mark, holding, with_value, IsGiven
 use Rattle.pe_frames.specs.declared.row.Row.{Row}
 use Rattle.pe_frames.specs.declared.node.Node.{Node}
 use Rattle.pe_frames.specs.Forest.{entry_of, Gives, StayDead, same_handle}
-use Rattle.pe_frames.specs.Links.{at, links_in}
+use Rattle.pe_frames.specs.Neighbours.{changed_at, links_in}
 use Rattle.pe_frames.specs.Kept.{kept, node_at, entry_in, entries_in, HasLinks, forest_in, IsForest, IsSwept}
-use Rattle.pe_frames.proofs.Nodes.{same_handle-Decides, kept-live}
+use Rattle.pe_frames.proofs.Nodes.{kept-live}
+use Rattle.pe_frames.proofs.Handles.{same_handle-Decides}
 use Rattle.std.proofs.lemmas.Bool.{false_from_ne_true}
 use Rattle.pe_frames.proofs.Writes.{Rewrites-one}
 use Rattle.pe_frames.proofs.Kin.{childless}
@@ -39,13 +40,13 @@ module _ {D : Type 0} where
     pub written : IfSome (live mid h) (λ r. t ≡ with_value mid h.slot (record r { node = record r.node { top = h } }))
 
   module _ (s mid t : Slots (Row D)) (order : List Handle) (pages : ℕ) (is : IsForest s order pages) (h : Handle) (frame : ℕ) (doc : D) (row : Row D) (opens : Opens s mid t h frame doc row) where
-    other : (k : Handle) (r : Row D) → k ≢ h → at (Some h) (topped h) k r ≡ r
+    other : (k : Handle) (r : Row D) → k ≢ h → changed_at (Some h) (topped h) k r ≡ r
     other k r ne = ap (λ b. cond b (topped h r) r) (false_from_ne_true (same_handle h k) (λ e. ne (sym ((same_handle-Decides h k).0 e))))
 
-    itself : at (Some h) (topped h) h row ≡ topped h row
+    itself : changed_at (Some h) (topped h) h row ≡ topped h row
     itself = ap (λ b. cond b (topped h row) row) ((same_handle-Decides h h).1 refl)
 
-    steps : Steps s mid t h row (at (Some h) (topped h))
+    steps : Steps s mid t h row (changed_at (Some h) (topped h))
     steps = record {
       new = opens.new;
       given = opens.given;
@@ -56,23 +57,23 @@ module _ {D : Type 0} where
       keeps = λ k r ne. ap (λ (x : Row D). x.node) (other k r ne);
     }
 
-    node-now : (at (Some h) (topped h) h row).node ≡ top_node h frame doc
+    node-now : (changed_at (Some h) (topped h) h row).node ≡ top_node h frame doc
     node-now = ap (λ (x : Row D). x.node) itself ∙ opens.node
 
     pub makes-top : Makes s t h (top_node h frame doc)
-    makes-top = subst (λ (n : Node D). Makes s t h n) node-now (Makes-steps s mid t h row (at (Some h) (topped h)) steps)
+    makes-top = subst (λ (n : Node D). Makes s t h n) node-now (Makes-steps s mid t h row (changed_at (Some h) (topped h)) steps)
 
     unseen : node_at (kept s order []) h ≡ None
     unseen = kept-live s h order (is.listed h) ∙ ap (option_map (λ r. r.node)) opens.new
 
-    links-here : HasLinks (entry_in (entries_in (kept s order [])) (record { handle = h; node = top_node h frame doc }) ∷ entries_in (kept s order [])) h (at (Some h) (topped h) h row)
+    links-here : HasLinks (entry_in (entries_in (kept s order [])) (record { handle = h; node = top_node h frame doc }) ∷ entries_in (kept s order [])) h (changed_at (Some h) (topped h) h row)
     links-here =
         ap (λ (x : Row D). x.links) itself
         ∙ opens.links
         ∙ sym (links-alone (entry_in (entries_in (kept s order [])) (record { handle = h; node = top_node h frame doc })) (entries_in (kept s order [])) refl h (childless (kept s order []) is.nodes is.apart h unseen))
         ∙ ap (λ (n : Node D). links_in (entry_in (entries_in (kept s order [])) (record { handle = h; node = top_node h frame doc }) ∷ entries_in (kept s order [])) h n.parent) (sym node-now)
 
-    links-there : (j : Handle) (r : Row D) → j ≢ h → live s j ≡ Some r → HasLinks (entry_in (entries_in (kept s order [])) (record { handle = h; node = top_node h frame doc }) ∷ entries_in (kept s order [])) j (at (Some h) (topped h) j r)
+    links-there : (j : Handle) (r : Row D) → j ≢ h → live s j ≡ Some r → HasLinks (entry_in (entries_in (kept s order [])) (record { handle = h; node = top_node h frame doc }) ∷ entries_in (kept s order [])) j (changed_at (Some h) (topped h) j r)
     links-there j r ne found =
         subst (λ x. HasLinks (entry_in (entries_in (kept s order [])) (record { handle = h; node = top_node h frame doc }) ∷ entries_in (kept s order [])) j x) (sym (other j r ne))
         (is.linked j r found ∙ sym (links-top (entry_in (entries_in (kept s order [])) (record { handle = h; node = top_node h frame doc })) (entries_in (kept s order [])) refl j r.node.parent))
@@ -81,10 +82,10 @@ module _ {D : Type 0} where
     IsForest-top few =
         let paged = is.paged in
         IsForest-made s t h (top_node h frame doc) makes-top order pages is (pages + 1) refl (omega arith) (omega (arith, few)) (omega (arith, paged))
-        (sized-top s mid t h row (at (Some h) (topped h)) steps order pages is (entry_in (entries_in (kept s order [])) (record { handle = h; node = top_node h frame doc })) refl
+        (sized-top s mid t h row (changed_at (Some h) (topped h)) steps order pages is (entry_in (entries_in (kept s order [])) (record { handle = h; node = top_node h frame doc })) refl
         (ap (λ (x : Row D). x.size) itself ∙ opens.one)
         (λ j r ne. ap (λ (x : Row D). x.size) (other j r ne)))
-        (each-row s mid t h row (at (Some h) (topped h)) steps (λ j x. HasLinks (entry_in (entries_in (kept s order [])) (record { handle = h; node = top_node h frame doc }) ∷ entries_in (kept s order [])) j x) links-here links-there)
+        (each-row s mid t h row (changed_at (Some h) (topped h)) steps (λ j x. HasLinks (entry_in (entries_in (kept s order [])) (record { handle = h; node = top_node h frame doc }) ∷ entries_in (kept s order [])) j x) links-here links-there)
 
     pub entries-top : (forest_in t (order ++ h ∷ [])).entries ≡ entry_in (entries_in (kept s order [])) (record { handle = h; node = top_node h frame doc }) ∷ entries_in (kept s order [])
     entries-top = entries-made s t h (top_node h frame doc) makes-top order pages is

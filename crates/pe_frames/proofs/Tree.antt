@@ -1,15 +1,15 @@
 -- The list of frames as a tree: parents, children and depths, with nothing of how it is kept.
-use Rattle.std.proofs.Common.{◌≡◌, inl, inr, ℕ, ◌≤◌, Bool, true, false, cond, List, [], ◌∷◌, ◌++◌, length, append_assoc, Option, None, Some, is_some, refl, sym, ap, subst, ◌∙◌, true≢false}
+use Rattle.std.proofs.Common.{◌≡◌, inl, inr, ℕ, ◌≤◌, Bool, true, false, cond, List, [], ◌∷◌, ◌++◌, length, append_assoc, None, Some, is_some, refl, sym, ap, subst, ◌∙◌, true≢false}
 use Rattle.std.specs.Prelude.{⊤}
 use Rattle.pe_arena.specs.declared.handle.Handle.{Handle}
 use Rattle.pe_frames.specs.Forest.{Entry, same_handle, last_of, path, parent_of, entry_of}
-use Rattle.pe_frames.specs.Order.{is_named, is_child, children, child_handles}
-use Rattle.pe_frames.specs.Links.{young}
-use Rattle.pe_frames.specs.Kept.{Kept, node_at, above_in, entry_in, entries_in, AreNodes, AreApart, AreOnce}
-use Rattle.pe_frames.proofs.Nodes.{same_handle-Decides, same_or_other}
+use Rattle.pe_frames.specs.Order.{is_child, children, child_handles, AreOnce}
+use Rattle.pe_frames.specs.Neighbours.{children_newest_first}
+use Rattle.pe_frames.specs.Kept.{Kept, node_at, above_in, entry_in, entries_in, AreNodes, AreApart}
+use Rattle.pe_frames.proofs.Handles.{same_handle-Decides, same_or_other, last-push, is_named-of, named_is}
 use Rattle.pe_frames.proofs.Pages.{Above, above-of, nothing, below, entry-absent}
 use Rattle.std.proofs.lemmas.Bool.{false_from_ne_true}
-use Rattle.pe_frames.proofs.Below.{last-push, entry-handle}
+use Rattle.pe_frames.proofs.Below.{entry-handle}
 use Rattle.pe_frames.proofs.Children.{children-turned, once-turned}
 use Rattle.pe_frames.proofs.Kin.{children-once}
 use Rattle.pe_frames.proofs.Lemmas.{some_same}
@@ -33,13 +33,6 @@ pub record Splits {A : Type 0} (xs : List A) (x : A) : Type 0 where
   pub back : List A
   pub is : xs ≡ front ++ x ∷ back
 
-named_is : (o : Option Handle) (p : Handle) → is_named o p ≡ true → o ≡ Some p
-named_is None p e = absurd (true≢false (sym e))
-named_is (Some k) p e = ap Some ((same_handle-Decides k p).0 e)
-
-is_named-of : (o : Option Handle) (p : Handle) → o ≡ Some p → is_named o p ≡ true
-is_named-of o p e = ap (λ x. is_named x p) e ∙ (same_handle-Decides p p).1 refl
-
 module _ {D : Type 0} where
   -- a live frame that the handle embeds
   pub record IsChild (es : List (Entry D)) (p : Handle) (c : Entry D) : Type 0 where
@@ -58,7 +51,7 @@ module _ {D : Type 0} where
     pub listed : (p : Handle) (c : Entry D) → IsChild es p c → Splits (children es p) c
     pub parent : (p : Handle) (c : Entry D) → IsChild es p c → IsParent es p c
     pub once : (p : Handle) → AreOnce (child_handles es p)
-    pub single : (p : Handle) → AreOnce (young es p)
+    pub single : (p : Handle) → AreOnce (children_newest_first es p)
     pub shallow : (c : Entry D) → entry_of es c.handle ≡ Some c → length c.above ≤ levels
 
   -- a frame keeps its place behind a newer one
@@ -143,7 +136,7 @@ module _ {D : Type 0} where
     born = born-of xs are apart;
     listed = listed-of xs;
     parent = parent-of xs are apart;
-    once = λ p. subst AreOnce (sym (children-turned (entries_in xs) p)) (once-turned (young (entries_in xs) p) (children-once xs are apart p));
+    once = λ p. subst AreOnce (sym (children-turned (entries_in xs) p)) (once-turned (children_newest_first (entries_in xs) p) (children-once xs are apart p));
     single = children-once xs are apart;
     shallow = shallow;
   }

@@ -4,9 +4,8 @@ use Rattle.std.specs.List.{flat_map}
 use Rattle.std.proofs.lemmas.List.{append-nil, append_cancel_left, map-append}
 use Rattle.pe_arena.specs.declared.handle.Handle.{Handle}
 use Rattle.pe_frames.specs.Forest.{Entry, same_handle, has_handle, path, entry_of}
-use Rattle.pe_frames.specs.Order.{children, tree_order}
-use Rattle.pe_frames.specs.Kept.{AreOnce}
-use Rattle.pe_frames.proofs.Nodes.{same_handle-Decides, has-append}
+use Rattle.pe_frames.specs.Order.{children, tree_order, AreOnce}
+use Rattle.pe_frames.proofs.Handles.{has-append, same_handle-Decides}
 use Rattle.std.proofs.lemmas.Bool.{false_from_ne_true, or_cases, or_from}
 use Rattle.pe_frames.proofs.Tree.{Each, each-append, each-map, IsChild, IsTree}
 use Rattle.std.proofs.Math.Bool.{or-true}

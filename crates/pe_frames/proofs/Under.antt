@@ -6,9 +6,10 @@ use Rattle.pe_arena.specs.declared.handle.Handle.{Handle}
 use Rattle.pe_arena.specs.Slots.{Slots}
 use Rattle.pe_frames.specs.declared.row.Row.{Row}
 use Rattle.pe_frames.specs.Forest.{Entry, Forest, has_handle, path, entry_of, node_in, is_under}
-use Rattle.pe_frames.specs.Order.{in_tree_order, handles_under}
-use Rattle.pe_frames.specs.Kept.{kept, entries_in, forest_in, IsForest, AreOnce}
-use Rattle.pe_frames.proofs.Nodes.{same_handle-Decides, found-live, has-append}
+use Rattle.pe_frames.specs.Order.{in_tree_order, handles_under, AreOnce}
+use Rattle.pe_frames.specs.Kept.{kept, entries_in, forest_in, IsForest}
+use Rattle.pe_frames.proofs.Nodes.{found-live}
+use Rattle.pe_frames.proofs.Handles.{has-append, same_handle-Decides}
 use Rattle.pe_frames.proofs.Below.{entry-handle}
 use Rattle.pe_frames.proofs.Tree.{Each, IsTree, tree-of}
 use Rattle.pe_frames.proofs.TreeOrder.{walk, walk-under, walk-once, walk-live}

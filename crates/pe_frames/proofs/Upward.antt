@@ -1,13 +1,9 @@
 -- Frames below a root, by the frames that embed them.
-use Rattle.std.proofs.Common.{◌≡◌, true, false, ◌||◌, List, [], ◌∷◌, None, is_some, refl, ap, ◌∙◌, true≢false}
+use Rattle.std.proofs.Common.{◌≡◌, true, false, ◌||◌, [], None, refl, ap, ◌∙◌}
 use Rattle.pe_arena.specs.declared.handle.Handle.{Handle}
-use Rattle.pe_frames.specs.Forest.{Entry, same_handle, has_handle, last_of, path, parent_of, is_under}
-use Rattle.pe_frames.proofs.Nodes.{has-push, same_handle-Decides}
+use Rattle.pe_frames.specs.Forest.{Entry, same_handle, has_handle, path, parent_of, is_under}
+use Rattle.pe_frames.proofs.Handles.{has-push, same_handle-Decides, no_last}
 use Rattle.std.proofs.Math.Bool.{or-false, or-true}
-
-no_last : (ks : List Handle) → last_of ks ≡ None → ks ≡ []
-no_last [] q = refl
-no_last (k ∷ ks) q = absurd (true≢false (ap is_some q))
 
 module _ {D : Type 0} where
   -- a frame with no parent stands below none

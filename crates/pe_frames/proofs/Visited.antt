@@ -6,7 +6,7 @@ use Rattle.pe_frames.specs.Order.{head_of, after, AreOnce}
 use Rattle.pe_frames.specs.Walk.{visited}
 use Rattle.pe_frames.proofs.Lemmas.{some_same}
 use Rattle.std.proofs.lemmas.Bool.{false_from_ne_true, or_from, or_right}
-use Rattle.pe_frames.proofs.Nodes.{same_handle-Decides, same_or_other}
+use Rattle.pe_frames.proofs.Handles.{same_handle-Decides, same_or_other, no_head}
 
 -- the list begins with this one
 record Begins (ks : List Handle) (h : Handle) : Type 0 where
@@ -16,10 +16,6 @@ record Begins (ks : List Handle) (h : Handle) : Type 0 where
 begins : (ks : List Handle) (h : Handle) → head_of ks ≡ Some h → Begins ks h
 begins [] h q = absurd cc
 begins (k ∷ ks) h q = record { back = ks; is = ap (λ x. x ∷ ks) (some_same q) }
-
-none-behind : (ks : List Handle) → head_of ks ≡ None → ks ≡ []
-none-behind [] q = refl
-none-behind (k ∷ ks) q = absurd cc
 
 head-listed : (h : Handle) (ks : List Handle) → has_handle h (h ∷ ks) ≡ true
 head-listed h ks = ap (λ b. b || has_handle h ks) ((same_handle-Decides h h).1 refl)
@@ -78,7 +74,7 @@ visited-new (k ∷ ks) once h next q = elim (same_or_other k h) as (λ _. has_ha
 pub visited-last : (ks : List Handle) (h : Handle) → has_handle h ks ≡ true → after h ks ≡ None → visited h ks ≡ ks
 visited-last [] h t q = refl
 visited-last (k ∷ ks) h t q = elim (same_or_other k h) as (λ _. visited h (k ∷ ks) ≡ k ∷ ks) [
-  | inl s ↦ ap (λ b. k ∷ cond b [] (visited h ks)) s ∙ ap (λ js. k ∷ js) (sym (none-behind ks (sym (ap (λ b. cond b (head_of ks) (after h ks)) s) ∙ q)))
+  | inl s ↦ ap (λ b. k ∷ cond b [] (visited h ks)) s ∙ ap (λ js. k ∷ js) (sym (no_head ks (sym (ap (λ b. cond b (head_of ks) (after h ks)) s) ∙ q)))
   | inr f ↦
       ap (λ b. k ∷ cond b [] (visited h ks)) f
       ∙ ap (λ js. k ∷ js) (visited-last ks h (sym (ap (λ b. b || has_handle h ks) f) ∙ t) (sym (ap (λ b. cond b (head_of ks) (after h ks)) f) ∙ q))

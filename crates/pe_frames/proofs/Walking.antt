@@ -4,9 +4,8 @@ use Rattle.std.specs.Prelude.{unwrap_or}
 use Rattle.std.proofs.lemmas.List.{append-nil, map-append}
 use Rattle.pe_arena.specs.declared.handle.Handle.{Handle}
 use Rattle.pe_frames.specs.Forest.{Entry, same_handle, has_handle, last_of, entry_of, is_under}
-use Rattle.pe_frames.specs.Order.{head_of, after, children, child_handles}
-use Rattle.pe_frames.specs.Kept.{AreOnce}
-use Rattle.pe_frames.proofs.Nodes.{same_handle-Decides, has-append}
+use Rattle.pe_frames.specs.Order.{head_of, after, children, child_handles, AreOnce}
+use Rattle.pe_frames.proofs.Handles.{has-append, same_handle-Decides}
 use Rattle.std.proofs.lemmas.Bool.{false_from_ne_true}
 use Rattle.pe_frames.proofs.Tree.{IsTree}
 use Rattle.pe_frames.proofs.TreeOrder.{walk, walks, walk-is, walk-once, walk-zero, walk-suc}

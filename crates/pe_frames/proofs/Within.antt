@@ -1,13 +1,13 @@
 -- The frames within a subtree: the root and those below it.
-use Rattle.std.proofs.Common.{◌≡◌, inl, inr, Bool, true, false, cond, ◌||◌, List, [], ◌∷◌, ◌++◌, length, length-append, Option, None, Some, refl, sym, ap, subst, ◌∙◌, arith, true≢false}
+use Rattle.std.proofs.Common.{◌≡◌, inl, inr, Bool, true, false, cond, ◌||◌, List, [], ◌∷◌, ◌++◌, length, length-append, None, Some, refl, sym, ap, subst, ◌∙◌, arith, true≢false}
 use Rattle.std.specs.Prelude.{filter, not}
 use Rattle.pe_base.specs.declared.limits.TheConstants.{DEPTH_LIMIT}
 use Rattle.pe_arena.specs.declared.handle.Handle.{Handle}
 use Rattle.pe_frames.specs.Forest.{Entry, path, same_handle, has_handle, first_of, entry_of, is_under, parent_of, top_of}
-use Rattle.pe_frames.specs.Order.{is_named, is_child, handles_under}
-use Rattle.pe_frames.specs.Links.{young}
+use Rattle.pe_frames.specs.Order.{is_child, handles_under}
+use Rattle.pe_frames.specs.Neighbours.{children_newest_first}
 use Rattle.pe_frames.specs.Kept.{Kept, entries_in, AreNodes, AreApart}
-use Rattle.pe_frames.proofs.Nodes.{same_handle-Decides, same_or_other, other-turned}
+use Rattle.pe_frames.proofs.Handles.{other-turned, same_handle-Decides, same_or_other, first-push, named_is}
 use Rattle.std.proofs.lemmas.Bool.{false_from_ne_true, cases_Bool}
 use Rattle.pe_frames.proofs.Below.{entry-handle}
 use Rattle.pe_frames.proofs.Upward.{above-none, under-parent, under-top, under-itself}
@@ -16,7 +16,6 @@ use Rattle.pe_frames.proofs.TreeOrder.{walk-under}
 use Rattle.pe_frames.proofs.Under.{handles-live, handles-all, handles-are, its-own}
 use Rattle.pe_frames.proofs.Cuts.{each-live, filter-agree}
 use Rattle.pe_frames.proofs.Without.{without}
-use Rattle.pe_frames.proofs.Pages.{first-push}
 use Rattle.pe_frames.proofs.Lemmas.{some_same}
 
 filter-all : {A : Type 0} (p : A → Bool) (xs : List A) → Each (λ x. p x ≡ true) xs → filter p xs ≡ xs
@@ -33,26 +32,26 @@ first-path (x ∷ ks) k rest d = refl
 
 module _ {D : Type 0} where
   -- the children that stay are those of what stays
-  pub young-stays : (gone : Handle → Bool) (stays : Entry D → Bool) (es : List (Entry D)) → Each (λ x. stays x ≡ not (gone x.handle)) es → (q : Handle) → young (filter stays es) q ≡ filter (λ k. not (gone k)) (young es q)
-  young-stays gone stays [] each q = refl
-  young-stays gone stays (x ∷ es) each q = ap (λ b. young (cond b (x ∷ filter stays es) (filter stays es)) q) each.0 ∙ by_test (not (gone x.handle)) (is_child q x) refl refl (young-stays gone stays es each.1 q)
+  pub children_newest_first-stays : (gone : Handle → Bool) (stays : Entry D → Bool) (es : List (Entry D)) → Each (λ x. stays x ≡ not (gone x.handle)) es → (q : Handle) → children_newest_first (filter stays es) q ≡ filter (λ k. not (gone k)) (children_newest_first es q)
+  children_newest_first-stays gone stays [] each q = refl
+  children_newest_first-stays gone stays (x ∷ es) each q = ap (λ b. children_newest_first (cond b (x ∷ filter stays es) (filter stays es)) q) each.0 ∙ by_test (not (gone x.handle)) (is_child q x) refl refl (children_newest_first-stays gone stays es each.1 q)
     where
-      by_test : (a b : Bool) → not (gone x.handle) ≡ a → is_child q x ≡ b → young (filter stays es) q ≡ filter (λ k. not (gone k)) (young es q)
-          → young (cond a (x ∷ filter stays es) (filter stays es)) q ≡ filter (λ k. not (gone k)) (cond b (x.handle ∷ young es q) (young es q))
+      by_test : (a b : Bool) → not (gone x.handle) ≡ a → is_child q x ≡ b → children_newest_first (filter stays es) q ≡ filter (λ k. not (gone k)) (children_newest_first es q)
+          → children_newest_first (cond a (x ∷ filter stays es) (filter stays es)) q ≡ filter (λ k. not (gone k)) (cond b (x.handle ∷ children_newest_first es q) (children_newest_first es q))
       by_test true true g c rest =
-          ap (λ t. cond t (x.handle ∷ young (filter stays es) q) (young (filter stays es) q)) c
+          ap (λ t. cond t (x.handle ∷ children_newest_first (filter stays es) q) (children_newest_first (filter stays es) q)) c
           ∙ ap (λ ks. x.handle ∷ ks) rest
-          ∙ sym (ap (λ t. cond t (x.handle ∷ filter (λ k. not (gone k)) (young es q)) (filter (λ k. not (gone k)) (young es q))) g)
-      by_test true false g c rest = ap (λ t. cond t (x.handle ∷ young (filter stays es) q) (young (filter stays es) q)) c ∙ rest
-      by_test false true g c rest = rest ∙ sym (ap (λ t. cond t (x.handle ∷ filter (λ k. not (gone k)) (young es q)) (filter (λ k. not (gone k)) (young es q))) g)
+          ∙ sym (ap (λ t. cond t (x.handle ∷ filter (λ k. not (gone k)) (children_newest_first es q)) (filter (λ k. not (gone k)) (children_newest_first es q))) g)
+      by_test true false g c rest = ap (λ t. cond t (x.handle ∷ children_newest_first (filter stays es) q) (children_newest_first (filter stays es) q)) c ∙ rest
+      by_test false true g c rest = rest ∙ sym (ap (λ t. cond t (x.handle ∷ filter (λ k. not (gone k)) (children_newest_first es q)) (filter (λ k. not (gone k)) (children_newest_first es q))) g)
       by_test false false g c rest = rest
 
   -- what is so of each frame with this parent is so of each child
-  pub young-each : (P : Handle → Type 0) (es : List (Entry D)) (q : Handle) → Each (λ x. is_child q x ≡ true → P x.handle) es → Each P (young es q)
-  young-each P [] q each = tt
-  young-each P (x ∷ es) q each = by_test (is_child q x) each.0 (young-each P es q each.1)
+  pub children_newest_first-each : (P : Handle → Type 0) (es : List (Entry D)) (q : Handle) → Each (λ x. is_child q x ≡ true → P x.handle) es → Each P (children_newest_first es q)
+  children_newest_first-each P [] q each = tt
+  children_newest_first-each P (x ∷ es) q each = by_test (is_child q x) each.0 (children_newest_first-each P es q each.1)
     where
-      by_test : (b : Bool) → (b ≡ true → P x.handle) → Each P (young es q) → Each P (cond b (x.handle ∷ young es q) (young es q))
+      by_test : (b : Bool) → (b ≡ true → P x.handle) → Each P (children_newest_first es q) → Each P (cond b (x.handle ∷ children_newest_first es q) (children_newest_first es q))
       by_test true f rest = (f refl, rest)
       by_test false f rest = rest
 
@@ -128,18 +127,14 @@ module _ {D : Type 0} where
         sym (first-push x.above x.handle h) ∙ ap (λ ks. first_of ks h) way.is ∙ first-path e.above e.handle way.rest h
 
     module _ (xs : List (Kept D)) (are : AreNodes xs) (apart : AreApart xs) (kept_as : es ≡ entries_in xs) where
-      each-child : (P : Handle → Type 0) (q : Handle) → ((x : Entry D) → entry_of es x.handle ≡ Some x → parent_of x ≡ Some q → P x.handle) → Each P (young es q)
-      each-child P q all = young-each P es q
+      each-child : (P : Handle → Type 0) (q : Handle) → ((x : Entry D) → entry_of es x.handle ≡ Some x → parent_of x ≡ Some q → P x.handle) → Each P (children_newest_first es q)
+      each-child P q all = children_newest_first-each P es q
           (subst (Each (λ x. is_child q x ≡ true → P x.handle)) (sym kept_as)
-          (each-live (λ x. is_child q x ≡ true → P x.handle) xs are apart (λ x f c. all x (subst (λ fs. entry_of fs x.handle ≡ Some x) (sym kept_as) f) (named (parent_of x) q c))))
-        where
-          named : (o : Option Handle) (p : Handle) → is_named o p ≡ true → o ≡ Some p
-          named None p c = absurd (true≢false (sym c))
-          named (Some k) p c = ap Some ((same_handle-Decides k p).0 c)
+          (each-live (λ x. is_child q x ≡ true → P x.handle) xs are apart (λ x f c. all x (subst (λ fs. entry_of fs x.handle ≡ Some x) (sym kept_as) f) (named_is (parent_of x) q c))))
 
       -- of the children of a frame that stays, the root alone goes
-      pub children-less : (q : Handle) → has_handle q (handles_under es h) ≡ false → filter (λ k. not (has_handle k (handles_under es h))) (young es q) ≡ without h (young es q)
-      children-less q g = filter-agree (λ k. not (has_handle k (handles_under es h))) (λ k. not (same_handle k h)) (young es q)
+      pub children-less : (q : Handle) → has_handle q (handles_under es h) ≡ false → filter (λ k. not (has_handle k (handles_under es h))) (children_newest_first es q) ≡ without h (children_newest_first es q)
+      children-less q g = filter-agree (λ k. not (has_handle k (handles_under es h))) (λ k. not (same_handle k h)) (children_newest_first es q)
           (each-child (λ k. not (has_handle k (handles_under es h)) ≡ not (same_handle k h)) q (λ x f par. elim (same_or_other x.handle h) as (λ _. not (has_handle x.handle (handles_under es h)) ≡ not (same_handle x.handle h)) [
             | inl t ↦ ap not (ap (λ j. has_handle j (handles_under es h)) ((same_handle-Decides x.handle h).0 t) ∙ root-goes ∙ sym t)
             | inr u ↦ ap not (child-goes x.handle x q f par u ∙ g ∙ sym u)
@@ -150,14 +145,14 @@ module _ {D : Type 0} where
         goes-below k u = sym (ap (λ b. b || has_handle k below) u) ∙ ap (has_handle k) is
 
         -- of the children of another frame that stays, none is below the root
-        pub children-same : (q : Handle) → same_handle h q ≡ false → has_handle q below ≡ false → filter (λ k. not (has_handle k below)) (young es q) ≡ young es q
-        children-same q other g = filter-all (λ k. not (has_handle k below)) (young es q)
+        pub children-same : (q : Handle) → same_handle h q ≡ false → has_handle q below ≡ false → filter (λ k. not (has_handle k below)) (children_newest_first es q) ≡ children_newest_first es q
+        children-same q other g = filter-all (λ k. not (has_handle k below)) (children_newest_first es q)
             (each-child (λ k. not (has_handle k below) ≡ true) q (λ x f par. ap not (elim (same_or_other x.handle h) as (λ _. has_handle x.handle below ≡ false) [
               | inl t ↦ ap (λ j. has_handle j below) ((same_handle-Decides x.handle h).0 t) ∙ once
               | inr u ↦ goes-below x.handle (other-turned x.handle h u) ∙ child-goes x.handle x q f par u ∙ sym (goes-below q other) ∙ g
             ])))
 
         -- and all children of the root are
-        pub children-none : filter (λ k. not (has_handle k below)) (young es h) ≡ []
-        children-none = filter-none (λ k. not (has_handle k below)) (young es h)
+        pub children-none : filter (λ k. not (has_handle k below)) (children_newest_first es h) ≡ []
+        children-none = filter-none (λ k. not (has_handle k below)) (children_newest_first es h)
             (each-child (λ k. not (has_handle k below) ≡ false) h (λ x f par. ap not (goes-below x.handle (other-turned x.handle h (child-not-root x.handle x f par)) ∙ child-of-root x.handle x f par)))

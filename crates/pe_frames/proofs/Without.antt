@@ -4,10 +4,9 @@ use Rattle.std.specs.Prelude.{filter, not, unwrap_or}
 use Rattle.std.proofs.lemmas.List.{append-nil}
 use Rattle.pe_arena.specs.declared.handle.Handle.{Handle}
 use Rattle.pe_frames.specs.Forest.{same_handle, has_handle, last_of}
-use Rattle.pe_frames.specs.Order.{is_named, head_of, after}
-use Rattle.pe_frames.specs.Links.{before}
-use Rattle.pe_frames.specs.Kept.{AreOnce}
-use Rattle.pe_frames.proofs.Nodes.{same_handle-Decides, same_or_other, has-append, other-turned}
+use Rattle.pe_frames.specs.Order.{is_named, head_of, after, AreOnce}
+use Rattle.pe_frames.specs.Neighbours.{before}
+use Rattle.pe_frames.proofs.Handles.{has-append, other-turned, same_handle-Decides, same_or_other, same-itself}
 use Rattle.std.proofs.lemmas.Bool.{cases_Bool, or_parts}
 use Rattle.pe_frames.proofs.Children.{head-absent, before-absent}
 
@@ -25,9 +24,6 @@ parts-of h (k ∷ ks) e = elim (same_or_other k h) as (λ _. Parts h (k ∷ ks))
       let p = parts-of h ks (ap (λ b. b || has_handle h ks) (sym f) ∙ e) in
       record { front = k ∷ p.front; back = p.back; is = ap (λ x. k ∷ x) p.is }
 ]
-
-same-itself : (h : Handle) → same_handle h h ≡ true
-same-itself h = (same_handle-Decides h h).1 refl
 
 -- what of a list without repeats is so of its parts
 once-back : (h : Handle) (xs ys : List Handle) → AreOnce (xs ++ h ∷ ys) → has_handle h ys ≡ false

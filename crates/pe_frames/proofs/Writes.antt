@@ -8,8 +8,8 @@ use Rattle.pe_arena.specs.declared.handle.Handle.{Handle}
 use Rattle.pe_arena.specs.Slots.{Slot, Slots, live, mark, with_value, Updates}
 use Rattle.pe_frames.specs.declared.row.Row.{Row}
 use Rattle.pe_frames.specs.Forest.{same_handle}
-use Rattle.pe_frames.specs.Links.{SameMarks, Rewrites, at}
-use Rattle.pe_frames.proofs.Nodes.{same_handle-Decides, same_or_other}
+use Rattle.pe_frames.specs.Neighbours.{SameMarks, Rewrites, changed_at}
+use Rattle.pe_frames.proofs.Handles.{same_handle-Decides, same_or_other}
 
 pub map-set_same : {A B : Type 0} (f : A → B) (xs : List A) (i : ℕ) (y d : A) → f y ≡ f (get_or xs i d) → map f (set xs i y) ≡ map f xs
 map-set_same f [] i y d e = refl
@@ -58,7 +58,7 @@ module _ {D : Type 0} where
     first = refl;
   }
 
-  pub Rewrites-none : (s : Slots (Row D)) (f : Row D → Row D) → Rewrites s s (at None f)
+  pub Rewrites-none : (s : Slots (Row D)) (f : Row D → Row D) → Rewrites s s (changed_at None f)
   Rewrites-none s f = record { rows = λ k. option_map-same (λ r. r) (λ r. refl) (live s k); same = SameMarks-refl s }
 
   pub Rewrites-then : (a b c : Slots (Row D)) (f g : Handle → Row D → Row D) → Rewrites a b f → Rewrites b c g → Rewrites a c (λ k r. g k (f k r))
@@ -68,26 +68,26 @@ module _ {D : Type 0} where
   }
 
   -- one row was written
-  pub Rewrites-one : (s t : Slots (Row D)) (h : Handle) (f : Row D → Row D) → IsSome (live s h) → ((r : Row D) → Updates s (with_value s h.slot r) h (Some r)) → IfSome (live s h) (λ r. t ≡ with_value s h.slot (f r)) → Rewrites s t (at (Some h) f)
+  pub Rewrites-one : (s t : Slots (Row D)) (h : Handle) (f : Row D → Row D) → IsSome (live s h) → ((r : Row D) → Updates s (with_value s h.slot r) h (Some r)) → IfSome (live s h) (λ r. t ≡ with_value s h.slot (f r)) → Rewrites s t (changed_at (Some h) f)
   Rewrites-one s t h f some alone written = by_row (live s h) refl some written
     where
-      by_row : (o : Option (Row D)) → live s h ≡ o → IsSome o → IfSome o (λ r. t ≡ with_value s h.slot (f r)) → Rewrites s t (at (Some h) f)
+      by_row : (o : Option (Row D)) → live s h ≡ o → IsSome o → IfSome o (λ r. t ≡ with_value s h.slot (f r)) → Rewrites s t (changed_at (Some h) f)
       by_row None q p w = absurd (true≢false (sym p))
-      by_row (Some r) q p w = subst (λ x. Rewrites s x (at (Some h) f)) (sym w) (record { rows = rows; same = SameMarks-write s h.slot (f r) })
+      by_row (Some r) q p w = subst (λ x. Rewrites s x (changed_at (Some h) f)) (sym w) (record { rows = rows; same = SameMarks-write s h.slot (f r) })
         where
-          rows : (k : Handle) → live (with_value s h.slot (f r)) k ≡ option_map (at (Some h) f k) (live s k)
+          rows : (k : Handle) → live (with_value s h.slot (f r)) k ≡ option_map (changed_at (Some h) f k) (live s k)
           rows k =
               let up = alone (f r) in
-              elim (same_or_other h k) as (λ _. live (with_value s h.slot (f r)) k ≡ option_map (at (Some h) f k) (live s k)) [
+              elim (same_or_other h k) as (λ _. live (with_value s h.slot (f r)) k ≡ option_map (changed_at (Some h) f k) (live s k)) [
                 | inl e ↦
                     let hk = (same_handle-Decides h k).0 e in
                     ap (live (with_value s h.slot (f r))) (sym hk)
                     ∙ up.changed
                     ∙ ap (λ b. Some (cond b (f r) r)) (sym e)
-                    ∙ ap (option_map (at (Some h) f k)) (sym q ∙ ap (live s) hk)
+                    ∙ ap (option_map (changed_at (Some h) f k)) (sym q ∙ ap (live s) hk)
                 | inr e ↦
                     up.others k (λ x. different h k e (sym x))
-                    ∙ option_map-same (at (Some h) f k) (λ x. ap (λ b. cond b (f x) x) e) (live s k)
+                    ∙ option_map-same (changed_at (Some h) f k) (λ x. ap (λ b. cond b (f x) x) e) (live s k)
               ]
 
   -- a live handle stays live
@@ -103,5 +103,5 @@ module _ {D : Type 0} where
   still-live_if a b f x (Some k) p = still-live a b f x k p
 
   -- the row that is named was written
-  pub Rewrites-some : (s t : Slots (Row D)) (o : Option Handle) (h : Handle) (f : Row D → Row D) → o ≡ Some h → IfSome o (λ k. IsSome (live s k)) → ((r : Row D) → Updates s (with_value s h.slot r) h (Some r)) → IfSome (live s h) (λ r. t ≡ with_value s h.slot (f r)) → Rewrites s t (at o f)
-  Rewrites-some s t o h f e some alone written = subst (λ x. Rewrites s t (at x f)) (sym e) (Rewrites-one s t h f (if_some (λ k. IsSome (live s k)) o h e some) alone written)
+  pub Rewrites-some : (s t : Slots (Row D)) (o : Option Handle) (h : Handle) (f : Row D → Row D) → o ≡ Some h → IfSome o (λ k. IsSome (live s k)) → ((r : Row D) → Updates s (with_value s h.slot r) h (Some r)) → IfSome (live s h) (λ r. t ≡ with_value s h.slot (f r)) → Rewrites s t (changed_at o f)
+  Rewrites-some s t o h f e some alone written = subst (λ x. Rewrites s t (changed_at x f)) (sym e) (Rewrites-one s t h f (if_some (λ k. IsSome (live s k)) o h e some) alone written)

@@ -7,12 +7,12 @@ use Rattle.pe_arena.specs.declared.handle.Handle.{Handle}
 use Rattle.pe_arena.specs.Slots.{Slot, Slots, live, mark, with_value, Updates}
 use Rattle.pe_frames.specs.declared.row.Row.{Row}
 use Rattle.pe_frames.specs.declared.node.Node.{Node}
-use Rattle.pe_frames.specs.Forest.{Entry, path, same_handle, entry_of, node_in, top_of, is_top, page_size, page_count, redone, with_doc}
+use Rattle.pe_frames.specs.Forest.{Entry, path, same_handle, entry_of, node_in, top_of, is_top, page_size, page_count, with_document, with_doc}
 use Rattle.pe_frames.specs.Order.{is_child}
 use Rattle.pe_frames.specs.Kept.{above_in, Kept, joined, kept, shown, node_at, entry_in, entries_in, AreNodes, AreApart, forest_in, IsForest, IsSwept}
-use Rattle.pe_frames.specs.Links.{links_by, young, links_in}
+use Rattle.pe_frames.specs.Neighbours.{links_by, children_newest_first, links_in}
 use Rattle.pe_frames.proofs.Writes.{map-set_same, mark-kept, SameMarks-write}
-use Rattle.pe_frames.proofs.Nodes.{same_handle-Decides, same_or_other}
+use Rattle.pe_frames.proofs.Handles.{same_handle-Decides, same_or_other}
 use Rattle.pe_frames.proofs.Lemmas.{some_same}
 
 module _ {D : Type 0} (h : Handle) (w : D) where
@@ -24,33 +24,33 @@ module _ {D : Type 0} (h : Handle) (w : D) where
   abbrev renode : Handle → Node D → Node D
   renode k n = record n { doc = cond (same_handle k h) w n.doc }
 
-  pub entry_of-redone : (es : List (Entry D)) (p : Handle) → entry_of (map (redone h w) es) p ≡ option_map (redone h w) (entry_of es p)
-  entry_of-redone [] p = refl
-  entry_of-redone (e ∷ es) p = by_test (same_handle e.handle p) (entry_of-redone es p)
+  pub entry_of-with_document : (es : List (Entry D)) (p : Handle) → entry_of (map (with_document h w) es) p ≡ option_map (with_document h w) (entry_of es p)
+  entry_of-with_document [] p = refl
+  entry_of-with_document (e ∷ es) p = by_test (same_handle e.handle p) (entry_of-with_document es p)
     where
-      by_test : (b : Bool) → entry_of (map (redone h w) es) p ≡ option_map (redone h w) (entry_of es p) → cond b (Some (redone h w e)) (entry_of (map (redone h w) es) p) ≡ option_map (redone h w) (cond b (Some e) (entry_of es p))
+      by_test : (b : Bool) → entry_of (map (with_document h w) es) p ≡ option_map (with_document h w) (entry_of es p) → cond b (Some (with_document h w e)) (entry_of (map (with_document h w) es) p) ≡ option_map (with_document h w) (cond b (Some e) (entry_of es p))
       by_test true rest = refl
       by_test false rest = rest
 
-  path-redone : (o : Option (Entry D)) → unwrap_or (option_map path (option_map (redone h w) o)) [] ≡ unwrap_or (option_map path o) []
-  path-redone None = refl
-  path-redone (Some e) = refl
+  path-with_document : (o : Option (Entry D)) → unwrap_or (option_map path (option_map (with_document h w) o)) [] ≡ unwrap_or (option_map path o) []
+  path-with_document None = refl
+  path-with_document (Some e) = refl
 
-  above-redone : (es : List (Entry D)) (p : Option Handle) → above_in (map (redone h w) es) p ≡ above_in es p
-  above-redone es None = refl
-  above-redone es (Some p) = ap (λ o. unwrap_or (option_map path o) []) (entry_of-redone es p) ∙ path-redone (entry_of es p)
+  above-with_document : (es : List (Entry D)) (p : Option Handle) → above_in (map (with_document h w) es) p ≡ above_in es p
+  above-with_document es None = refl
+  above-with_document es (Some p) = ap (λ o. unwrap_or (option_map path o) []) (entry_of-with_document es p) ∙ path-with_document (entry_of es p)
 
-  entry-redo : (es fs : List (Entry D)) (x : Kept D) → fs ≡ map (redone h w) es → entry_in fs (redo x) ≡ redone h w (entry_in es x)
+  entry-redo : (es fs : List (Entry D)) (x : Kept D) → fs ≡ map (with_document h w) es → entry_in fs (redo x) ≡ with_document h w (entry_in es x)
   entry-redo es fs x e =
       ap (λ ks. record { handle = x.handle; above = ks; frame = x.node.frame; doc = cond (same_handle x.handle h) w x.node.doc })
-      (ap (λ gs. above_in gs x.node.parent) e ∙ above-redone es x.node.parent)
+      (ap (λ gs. above_in gs x.node.parent) e ∙ above-with_document es x.node.parent)
 
-  entries-redo : (xs : List (Kept D)) → entries_in (map redo xs) ≡ map (redone h w) (entries_in xs)
+  entries-redo : (xs : List (Kept D)) → entries_in (map redo xs) ≡ map (with_document h w) (entries_in xs)
   entries-redo [] = refl
   entries-redo (x ∷ xs) =
       let rest = entries-redo xs in
       ap (λ e. e ∷ entries_in (map redo xs)) (entry-redo (entries_in xs) (entries_in (map redo xs)) x rest)
-      ∙ ap (λ es. redone h w (entry_in (entries_in xs) x) ∷ es) rest
+      ∙ ap (λ es. with_document h w (entry_in (entries_in xs) x) ∷ es) rest
 
   nodes-redo : (xs : List (Kept D)) → AreNodes xs → AreNodes (map redo xs)
   nodes-redo [] are = tt
@@ -72,32 +72,32 @@ module _ {D : Type 0} (h : Handle) (w : D) where
   apart-redo [] are = tt
   apart-redo (x ∷ xs) are = (absent-redo xs x.handle are.0, apart-redo xs are.1)
 
-  size-redone : (es : List (Entry D)) (k : Handle) → page_size (map (redone h w) es) k ≡ page_size es k
-  size-redone [] k = refl
-  size-redone (e ∷ es) k = by_test (same_handle (top_of e) k) (size-redone es k)
+  size-with_document : (es : List (Entry D)) (k : Handle) → page_size (map (with_document h w) es) k ≡ page_size es k
+  size-with_document [] k = refl
+  size-with_document (e ∷ es) k = by_test (same_handle (top_of e) k) (size-with_document es k)
     where
-      by_test : (b : Bool) → page_size (map (redone h w) es) k ≡ page_size es k
-          → length (cond b (redone h w e ∷ filter (λ y. same_handle (top_of y) k) (map (redone h w) es)) (filter (λ y. same_handle (top_of y) k) (map (redone h w) es)))
+      by_test : (b : Bool) → page_size (map (with_document h w) es) k ≡ page_size es k
+          → length (cond b (with_document h w e ∷ filter (λ y. same_handle (top_of y) k) (map (with_document h w) es)) (filter (λ y. same_handle (top_of y) k) (map (with_document h w) es)))
           ≡ length (cond b (e ∷ filter (λ y. same_handle (top_of y) k) es) (filter (λ y. same_handle (top_of y) k) es))
       by_test true rest = omega (arith, rest)
       by_test false rest = rest
 
-  count-redone : (es : List (Entry D)) → page_count (map (redone h w) es) ≡ page_count es
-  count-redone [] = refl
-  count-redone (e ∷ es) = by_test (is_top e) (count-redone es)
+  count-with_document : (es : List (Entry D)) → page_count (map (with_document h w) es) ≡ page_count es
+  count-with_document [] = refl
+  count-with_document (e ∷ es) = by_test (is_top e) (count-with_document es)
     where
-      by_test : (b : Bool) → page_count (map (redone h w) es) ≡ page_count es
-          → length (cond b (redone h w e ∷ filter is_top (map (redone h w) es)) (filter is_top (map (redone h w) es))) ≡ length (cond b (e ∷ filter is_top es) (filter is_top es))
+      by_test : (b : Bool) → page_count (map (with_document h w) es) ≡ page_count es
+          → length (cond b (with_document h w e ∷ filter is_top (map (with_document h w) es)) (filter is_top (map (with_document h w) es))) ≡ length (cond b (e ∷ filter is_top es) (filter is_top es))
       by_test true rest = omega (arith, rest)
       by_test false rest = rest
 
-  pub young-redone : (es : List (Entry D)) (p : Handle) → young (map (redone h w) es) p ≡ young es p
-  young-redone [] p = refl
-  young-redone (e ∷ es) p = ap (λ ks. cond (is_child p e) (e.handle ∷ ks) ks) (young-redone es p)
+  pub children_newest_first-with_document : (es : List (Entry D)) (p : Handle) → children_newest_first (map (with_document h w) es) p ≡ children_newest_first es p
+  children_newest_first-with_document [] p = refl
+  children_newest_first-with_document (e ∷ es) p = ap (λ ks. cond (is_child p e) (e.handle ∷ ks) ks) (children_newest_first-with_document es p)
 
-  links-redone : (es : List (Entry D)) (k : Handle) (p : Option Handle) → links_in (map (redone h w) es) k p ≡ links_in es k p
-  links-redone es k None = ap (λ ks. links_by ks [] k) (young-redone es k)
-  links-redone es k (Some p) = ap (λ ks. links_by ks (young (map (redone h w) es) p) k) (young-redone es k) ∙ ap (λ ks. links_by (young es k) ks k) (young-redone es p)
+  links-with_document : (es : List (Entry D)) (k : Handle) (p : Option Handle) → links_in (map (with_document h w) es) k p ≡ links_in es k p
+  links-with_document es k None = ap (λ ks. links_by ks [] k) (children_newest_first-with_document es k)
+  links-with_document es k (Some p) = ap (λ ks. links_by ks (children_newest_first (map (with_document h w) es) p) k) (children_newest_first-with_document es k) ∙ ap (λ ks. links_by (children_newest_first es k) ks k) (children_newest_first-with_document es p)
 
   -- the row of the named frame was written
   module _ (s : Slots (Row D)) (r : Row D) (found : live s h ≡ Some r) (alone : (x : Row D) → Updates s (with_value s h.slot x) h (Some x)) where
@@ -155,7 +155,7 @@ module _ {D : Type 0} (h : Handle) (w : D) where
     still_shown (Some n) k p = refl
 
     module _ (order : List Handle) (pages : ℕ) (is : IsForest s order pages) where
-      entries-written : entries_in (kept (with_value s h.slot (record r { node = record r.node { doc = w } })) order []) ≡ map (redone h w) (entries_in (kept s order []))
+      entries-written : entries_in (kept (with_value s h.slot (record r { node = record r.node { doc = w } })) order []) ≡ map (with_document h w) (entries_in (kept s order []))
       entries-written = ap entries_in (kept-redo order []) ∙ entries-redo (kept s order [])
 
       -- as many frames are kept
@@ -174,7 +174,7 @@ module _ {D : Type 0} (h : Handle) (w : D) where
         sized = λ k x e p.
             (let row = row-redo k x e in
             let was = is.sized k row.0 row.1 (sym row.3 ∙ p) in
-            let same = ap (λ es. page_size es k) entries-written ∙ size-redone (entries_in (kept s order [])) k in
+            let same = ap (λ es. page_size es k) entries-written ∙ size-with_document (entries_in (kept s order [])) k in
             let a = was.size in
             let b = was.within in
             let c = row.2 in
@@ -184,7 +184,7 @@ module _ {D : Type 0} (h : Handle) (w : D) where
             row.5
             ∙ is.linked k row.0 row.1
             ∙ ap (links_in (entries_in (kept s order [])) k) (sym row.3)
-            ∙ sym (ap (λ es. links_in es k x.node.parent) entries-written ∙ links-redone (entries_in (kept s order [])) k x.node.parent));
+            ∙ sym (ap (λ es. links_in es k x.node.parent) entries-written ∙ links-with_document (entries_in (kept s order [])) k x.node.parent));
         shallow = λ k n e.
             (let x = shown_row (live (with_value s h.slot (record r { node = record r.node { doc = w } })) k) n e in
             let row = row-redo k x.0 x.1 in
@@ -192,7 +192,7 @@ module _ {D : Type 0} (h : Handle) (w : D) where
             let b = ap (λ z. z.depth) x.2 in
             let c = row.4 in
             omega arith);
-        paged = is.paged ∙ sym (ap page_count entries-written ∙ count-redone (entries_in (kept s order [])));
+        paged = is.paged ∙ sym (ap page_count entries-written ∙ count-with_document (entries_in (kept s order [])));
         few = is.few;
         counted = (let n = length-set s.slots h.slot (record { mark = mark s h.slot; value = Some (record r { node = record r.node { doc = w } }) }) in let a = is.counted in omega arith);
         wide = is.wide;
@@ -202,5 +202,5 @@ module _ {D : Type 0} (h : Handle) (w : D) where
       pub forest-written : forest_in (with_value s h.slot (record r { node = record r.node { doc = w } })) order ≡ with_doc (forest_in s order) h w
       forest-written =
           ap (λ es. record { entries = es; marks = map (λ x. x.mark) (with_value s h.slot (record r { node = record r.node { doc = w } })).slots; made = s.made }) entries-written
-          ∙ ap (λ ms. record { entries = map (redone h w) (entries_in (kept s order [])); marks = ms; made = s.made })
+          ∙ ap (λ ms. record { entries = map (with_document h w) (entries_in (kept s order [])); marks = ms; made = s.made })
           (map-set_same (λ (x : Slot (Row D)). x.mark) s.slots h.slot (record { mark = mark s h.slot; value = Some (record r { node = record r.node { doc = w } }) }) (record { mark = s.first; value = None }) refl)

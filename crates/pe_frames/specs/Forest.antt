@@ -178,9 +178,9 @@ module _ {D : Type 0} where
   StayDead old new = (h : Handle) → IsDead old h → IsDead new h
 
   -- the frame with this document, if it is the named one
-  abbrev pub redone : Handle → D → Entry D → Entry D
-  redone h doc e = record e { doc = if same_handle e.handle h then doc else e.doc }
+  abbrev pub with_document : Handle → D → Entry D → Entry D
+  with_document h doc e = record e { doc = if same_handle e.handle h then doc else e.doc }
 
   -- the named frame shows this document
   abbrev pub with_doc : Forest D → Handle → D → Forest D
-  with_doc f h doc = record f { entries = map (redone h doc) f.entries }
+  with_doc f h doc = record f { entries = map (with_document h doc) f.entries }

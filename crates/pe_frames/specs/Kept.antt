@@ -4,10 +4,9 @@ use Rattle.std.specs.Option.{option_map, option_and_then}
 use Rattle.pe_arena.specs.declared.handle.Handle.{Handle}
 use Rattle.pe_arena.specs.Slots.{Slots, live, mark}
 use Rattle.pe_frames.specs.declared.row.Row.{Row}
-use Rattle.pe_frames.specs.declared.row.Standing.{Standing}
+use Rattle.pe_frames.specs.declared.row.FramePosition.{FramePosition}
 use Rattle.pe_frames.specs.declared.node.Node.{Node}
-use Rattle.pe_frames.specs.Links.{links_in}
-pub use Rattle.pe_frames.specs.Order.{AreOnce}
+use Rattle.pe_frames.specs.Neighbours.{links_in}
 use Rattle.pe_frames.specs.Forest.{parent_of, top_of, depth_of, Entry, Forest, entry_of, path, has_handle, same_handle, node_in, page_size, page_count}
 
 -- a live frame as it is kept: its handle and its node
@@ -68,7 +67,7 @@ module _ {D : Type 0} where
   HasLinks es h r = r.links ≡ links_in es h r.node.parent
 
   -- where the frame with this handle stands
-  abbrev pub standing_in : List (Entry D) → Handle → Entry D → Standing
+  abbrev pub standing_in : List (Entry D) → Handle → Entry D → FramePosition
   standing_in es h e = record { parent = parent_of e; top = top_of e; depth = depth_of e; links = links_in es h (parent_of e) }
 
   -- the live ones of the handles are listed as before, and no handle is new

@@ -1,6 +1,6 @@
 pub mod Forest
 pub mod Kept
 pub mod Lends
-pub mod Links
+pub mod Neighbours
 pub mod Order
 pub mod Walk

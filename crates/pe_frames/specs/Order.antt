@@ -3,7 +3,7 @@ use Rattle.std.specs.Prelude.{◌≡◌, ⊤, ℕ, zero, suc, Bool, false, not, 
 use Rattle.std.specs.List.{flat_map}
 use Rattle.pe_arena.specs.declared.handle.Handle.{Handle}
 use Rattle.pe_base.specs.declared.limits.TheConstants.{DEPTH_LIMIT}
-use Rattle.pe_frames.specs.Forest.{Entry, same_handle, has_handle, parent_of, entry_of, is_under, redone}
+use Rattle.pe_frames.specs.Forest.{Entry, same_handle, has_handle, parent_of, entry_of, is_under, with_document}
 
 -- whether this is the named handle
 abbrev pub is_named : Option Handle → Handle → Bool
@@ -71,4 +71,4 @@ module _ {D : Type 0} where
 
   -- the named frame shows this document, and there is none below it
   abbrev pub navigated : Handle → D → List (Entry D) → List (Entry D)
-  navigated h doc es = map (redone h doc) (filter (λ e. same_handle e.handle h || not (is_under h e)) es)
+  navigated h doc es = map (with_document h doc) (filter (λ e. same_handle e.handle h || not (is_under h e)) es)

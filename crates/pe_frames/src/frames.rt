@@ -1,15 +1,15 @@
 //! The tree of frames.
-ghost use Rattle.std.specs.Prelude.{◌≡◌, ◌≢◌, ◌⊎◌, ◌↔◌, ◌+◌, ◌<◌, ◌≤◌, ◌-◌, ◌^◌, ℕ, IsSome, IsTrue, IfSome, IsSomeAnd, [], ◌∷◌, IfOk, IfErr, OnOk, OnErr, None, Err, option_copied, vec_len, vec_capacity};
+ghost use Rattle.std.specs.Prelude.{◌≡◌, ◌≢◌, ◌⊎◌, ◌↔◌, ◌+◌, ◌<◌, ◌≤◌, ◌-◌, ◌^◌, IsSome, IsTrue, IfSome, IsSomeAnd, [], ◌∷◌, IfOk, IfErr, OnOk, OnErr, None, Err, option_copied, vec_len, vec_capacity};
 ghost use Rattle.std.specs.Option.{option_map, option_and_then, option_copied_mut};
 ghost use Rattle.std.specs.Borrow.{sem};
 ghost use Rattle.pe_frames.specs.Forest.{entry_of, node_of, doc_of, parent_of, top_of, page_count, page_size, mark_of, path_of, depth_of, refusal, embed_fault, opened, IsDead, Gives, StayDead};
 ghost use Rattle.pe_frames.specs.Order.{head_of, closed, navigated, handles_under, docs_under};
-ghost use Rattle.pe_frames.specs.Links.{young};
+ghost use Rattle.pe_frames.specs.Neighbours.{children_newest_first};
 ghost use Rattle.pe_frames.specs.Kept.{standing_in};
 
-use crate::node::{Node, Numbered, Place};
+use crate::node::{NewPosition, Node, Numbered};
 use crate::removal::{renew, shrink_page, sweep, take_all, take_one, unlink};
-use crate::row::{Links, Row, Standing, grow_page, link, name_top, put_row};
+use crate::row::{FramePosition, Neighbours, Row, grow_page, link, name_top, put_row};
 use pe_arena::{Arena, DocRef, Handle};
 use pe_base::{DEPTH_LIMIT, FRAME_LIMIT, FrameNo, PAGE_LIMIT, Steps};
 use std::alloc::{AllocError, Global};
@@ -94,7 +94,7 @@ impl<D: Numbered> Frames<D> {
             Row {
                 node: Node::top(frame, doc),
                 size: 1,
-                links: Links::behind(None),
+                links: Neighbours::behind(None),
             },
         ) {
             Ok(h) => h,
@@ -124,7 +124,7 @@ impl<D: Numbered> Frames<D> {
             return Err(TreeFault::Memory);
         }
         let node = Node::below(parent, place, frame, doc);
-        let links = Links::behind(place.last);
+        let links = Neighbours::behind(place.last);
         let h = match put_row(
             &mut self.rows,
             Row {
@@ -143,12 +143,12 @@ impl<D: Numbered> Frames<D> {
     }
 
     // The place of a frame that is to be embedded in the parent.
-    fn place_below(&self, parent: Handle) -> Result<Place, TreeFault>
+    fn place_below(&self, parent: Handle) -> Result<NewPosition, TreeFault>
         ensures fault { refusal result ≡ embed_fault self.now.entries parent }
         ensures memory { result ≢ Err TreeFault.Memory }
         ensures depth { IfOk result (λ p. p.depth ≤ 64) }
         ensures room { IfOk result (λ p. page_size self.now.entries p.top ≢ FRAME_LIMIT) }
-        ensures place { IfOk result (λ p. IsSomeAnd (entry_of self.now.entries parent) (λ e. p ≡ record { top = top_of e; depth = depth_of e + 1; last = head_of (young self.now.entries parent) })) }
+        ensures place { IfOk result (λ p. IsSomeAnd (entry_of self.now.entries parent) (λ e. p ≡ record { top = top_of e; depth = depth_of e + 1; last = head_of (children_newest_first self.now.entries parent) })) }
     {
         let here = match self.standing(parent) {
             Some(here) => here,
@@ -160,7 +160,7 @@ impl<D: Numbered> Frames<D> {
         if self.page_size(parent) == Some(FRAME_LIMIT) {
             return Err(TreeFault::TooMany);
         }
-        Ok(Place {
+        Ok(NewPosition {
             top: here.top,
             depth: here.depth + 1,
             last: here.links.last,
@@ -168,12 +168,12 @@ impl<D: Numbered> Frames<D> {
     }
 
     // Where the frame of the handle stands.
-    pub(crate) fn standing(&self, h: Handle) -> Option<Standing>
+    pub(crate) fn standing(&self, h: Handle) -> Option<FramePosition>
         ensures value { result ≡ option_map (standing_in self.now.entries h) (entry_of self.now.entries h) }
         ensures depth { IfSome result (λ p. p.depth ≤ 64) }
     {
         let row = self.rows.get(h)?;
-        Some(Standing {
+        Some(FramePosition {
             parent: row.node.parent,
             top: row.node.top,
             depth: row.node.depth,

@@ -1,7 +1,7 @@
 //! What is so of every tree of frames, for proofs of callers.
 ghost use Rattle.std.specs.Prelude.{◌≡◌, ◌≤◌, ◌↔◌, ◌&&◌, IsTrue, IsSome, IsSomeAnd, IfSome, Some, None, Bool, false, [], ◌∷◌, ◌++◌, map, filter, length};
 ghost use Rattle.std.specs.Option.{option_map, option_and_then};
-ghost use Rattle.pe_frames.specs.Forest.{Entry, entry_of, has_handle, is_under, parent_of, path_of, top_of, page_count, page_size, redone, AreFrames, AreGiven};
+ghost use Rattle.pe_frames.specs.Forest.{Entry, entry_of, has_handle, is_under, parent_of, path_of, top_of, page_count, page_size, with_document, AreFrames, AreGiven};
 ghost use Rattle.pe_frames.specs.Order.{after, in_tree_order, handles_under, docs_under, AreOnce};
 ghost use Rattle.pe_frames.specs.Walk.{visited, is_of_page, changed_where, changed_to, changed_under, changed_page};
 
@@ -76,9 +76,9 @@ impl<D: Numbered> Frames<D> {
     /// root is its top frame, and of no other; the call does nothing. Where the change leaves a document
     /// as it is, it need not be written.
     pub fn is_changed_in_tree_order(&self)
-        ensures first { (change : Entry D → D) → (root : Handle) → IfSome (entry_of self.now.entries root) (λ e. map (redone root (change e)) self.now.entries ≡ changed_to change self.now.entries root root) }
+        ensures first { (change : Entry D → D) → (root : Handle) → IfSome (entry_of self.now.entries root) (λ e. map (with_document root (change e)) self.now.entries ≡ changed_to change self.now.entries root root) }
         ensures unvisited { (change : Entry D → D) → (root : Handle) → (h : Handle) → (next : Handle) → after h (handles_under self.now.entries root) ≡ Some next → entry_of (changed_to change self.now.entries root h) next ≡ entry_of self.now.entries next }
-        ensures next { (change : Entry D → D) → (root : Handle) → (h : Handle) → (next : Handle) → after h (handles_under self.now.entries root) ≡ Some next → IfSome (entry_of self.now.entries next) (λ e. map (redone next (change e)) (changed_to change self.now.entries root h) ≡ changed_to change self.now.entries root next) }
+        ensures next { (change : Entry D → D) → (root : Handle) → (h : Handle) → (next : Handle) → after h (handles_under self.now.entries root) ≡ Some next → IfSome (entry_of self.now.entries next) (λ e. map (with_document next (change e)) (changed_to change self.now.entries root h) ≡ changed_to change self.now.entries root next) }
         ensures skipped { (change : Entry D → D) → (root : Handle) → (h : Handle) → (next : Handle) → after h (handles_under self.now.entries root) ≡ Some next → IfSome (entry_of self.now.entries next) (λ e. change e ≡ e.doc → changed_to change self.now.entries root h ≡ changed_to change self.now.entries root next) }
         ensures last { (change : Entry D → D) → (root : Handle) → (h : Handle) → IsTrue (has_handle h (handles_under self.now.entries root)) → after h (handles_under self.now.entries root) ≡ None → changed_to change self.now.entries root h ≡ changed_under change self.now.entries root }
         ensures page { (change : Entry D → D) → (h : Handle) → IfSome (entry_of self.now.entries h) (λ e. changed_under change self.now.entries (top_of e) ≡ changed_page change self.now.entries (top_of e)) }

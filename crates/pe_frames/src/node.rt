@@ -30,7 +30,7 @@ pub struct Node<D> {
 
 // The place of a new frame: the top frame of its page, its depth, and the last child before it.
 #[derive(Clone, Copy)]
-pub(crate) struct Place {
+pub(crate) struct NewPosition {
     pub(crate) top: Handle,
     pub(crate) depth: u32,
     pub(crate) last: Option<Handle>,
@@ -38,7 +38,7 @@ pub(crate) struct Place {
 
 impl<D> Node<D> {
     // A frame that the parent embeds.
-    pub(crate) fn below(parent: Handle, place: Place, frame: FrameNo, doc: D) -> Node<D>
+    pub(crate) fn below(parent: Handle, place: NewPosition, frame: FrameNo, doc: D) -> Node<D>
         ensures { result ≡ record { frame = frame; parent = Some parent; top = place.top; depth = place.depth; doc = doc } }
     {
         Node {

@@ -1,10 +1,11 @@
 //! Removal of rows.
 ghost use Rattle.std.specs.Prelude.{◌≡◌, Some, ◌+◌, ◌<◌, ◌≤◌, ◌↔◌, ◌++◌, [], ◌∷◌, IsSome, IfSome, IsTrue, length, vec_len, vec_capacity};
 ghost use Rattle.pe_arena.specs.Slots.{live, with_value, Updates};
-ghost use Rattle.pe_frames.specs.Links.{Rewrites, Removes, at, docs_at, unlinked, smaller, renewed};
-ghost use Rattle.pe_frames.specs.Kept.{kept, AreOnce, IsSwept, Sweeps};
+ghost use Rattle.pe_frames.specs.Neighbours.{Rewrites, Removes, changed_at, docs_at, unlinked, with_fewer_frames, renewed};
+ghost use Rattle.pe_frames.specs.Order.{AreOnce};
+ghost use Rattle.pe_frames.specs.Kept.{kept, IsSwept, Sweeps};
 
-use crate::row::{Links, Row, set_earlier, set_first, set_last, set_later, unless};
+use crate::row::{Neighbours, Row, set_earlier, set_first, set_last, set_later, unless};
 use pe_arena::{Arena, Handle};
 use std::mem;
 
@@ -48,7 +49,7 @@ pub(crate) fn renew<D>(rows: &mut Arena<Row<D>>, h: Handle, doc: D) -> D
 fn shrink_at<D>(rows: &mut Arena<Row<D>>, top: Handle, count: u32)
     requires live { IsSome (live rows.old top) }
     requires size { IfSome (live rows.old top) (λ r. count ≤ r.size) }
-    ensures written { IfSome (live rows.old top) (λ r. rows.new ≡ with_value rows.old top.slot (smaller count r)) }
+    ensures written { IfSome (live rows.old top) (λ r. rows.new ≡ with_value rows.old top.slot (with_fewer_frames count r)) }
     ensures alone { (r : Row D) → Updates rows.old (with_value rows.old top.slot r) top (Some r) }
 {
     let row = rows.get_mut(top).unwrap();
@@ -59,7 +60,7 @@ fn shrink_at<D>(rows: &mut Arena<Row<D>>, top: Handle, count: u32)
 pub(crate) fn shrink_page<D>(rows: &mut Arena<Row<D>>, top: Option<Handle>, count: u32)
     requires live { IfSome top (λ k. IsSome (live rows.old k)) }
     requires size { IfSome top (λ k. IfSome (live rows.old k) (λ r. count ≤ r.size)) }
-    ensures { Rewrites rows.old rows.new (at top (smaller count)) }
+    ensures { Rewrites rows.old rows.new (changed_at top (with_fewer_frames count)) }
 {
     if let Some(top) = top {
         shrink_at(rows, top, count);
@@ -67,7 +68,7 @@ pub(crate) fn shrink_page<D>(rows: &mut Arena<Row<D>>, top: Option<Handle>, coun
 }
 
 // Mends what the siblings and the parent of a removed frame say of their neighbours.
-pub(crate) fn unlink<D>(rows: &mut Arena<Row<D>>, links: Links, parent: Option<Handle>)
+pub(crate) fn unlink<D>(rows: &mut Arena<Row<D>>, links: Neighbours, parent: Option<Handle>)
     requires earlier { IfSome links.earlier (λ k. IsSome (live rows.old k)) }
     requires later { IfSome links.later (λ k. IsSome (live rows.old k)) }
     requires parent { IfSome parent (λ k. IsSome (live rows.old k)) }

@@ -1,7 +1,7 @@
 //! The rows of frames.
 ghost use Rattle.std.specs.Prelude.{◌≡◌, ◌↔◌, ◌+◌, ◌-◌, ◌<◌, ◌≤◌, ◌^◌, IsSome, IsTrue, IfSome, length, IfOk, OnErr, Some, None, if◌then◌else◌, is_none};
 ghost use Rattle.pe_arena.specs.Slots.{live, mark, holding, with_value, IsGiven, Updates};
-ghost use Rattle.pe_frames.specs.Links.{Rewrites, at, with_first, with_last, with_earlier, with_later, linked};
+ghost use Rattle.pe_frames.specs.Neighbours.{Rewrites, changed_at, with_first, with_last, with_earlier, with_later, linked};
 
 use crate::node::Node;
 use pe_arena::{Arena, Handle, Insert};
@@ -9,19 +9,19 @@ use std::alloc::AllocError;
 
 // The neighbours of a frame: its first and its last child, and the siblings before and behind it.
 #[derive(Clone, Copy)]
-pub(crate) struct Links {
+pub(crate) struct Neighbours {
     pub(crate) first: Option<Handle>,
     pub(crate) last: Option<Handle>,
     pub(crate) earlier: Option<Handle>,
     pub(crate) later: Option<Handle>,
 }
 
-impl Links {
+impl Neighbours {
     // A frame with no child, behind this sibling.
-    pub(crate) fn behind(earlier: Option<Handle>) -> Links
+    pub(crate) fn behind(earlier: Option<Handle>) -> Neighbours
         ensures { result ≡ record { first = None; last = None; earlier = earlier; later = None } }
     {
-        Links {
+        Neighbours {
             first: None,
             last: None,
             earlier,
@@ -30,10 +30,10 @@ impl Links {
     }
 
     // The same siblings, and no child.
-    pub(crate) fn childless(self) -> Links
+    pub(crate) fn childless(self) -> Neighbours
         ensures { result ≡ record { first = None; last = None; earlier = self.earlier; later = self.later } }
     {
-        Links {
+        Neighbours {
             first: None,
             last: None,
             earlier: self.earlier,
@@ -44,14 +44,14 @@ impl Links {
 
 // Where a frame stands: its parent, the top frame of its page, its depth and its neighbours.
 #[derive(Clone, Copy)]
-pub(crate) struct Standing {
+pub(crate) struct FramePosition {
     pub(crate) parent: Option<Handle>,
     pub(crate) top: Handle,
     pub(crate) depth: u32,
-    pub(crate) links: Links,
+    pub(crate) links: Neighbours,
 }
 
-impl Standing {
+impl FramePosition {
     // The top frame of the page that is left, once the frame is removed: a top frame leaves none.
     pub(crate) fn page(self) -> Option<Handle>
         ensures { result ≡ (if is_none self.parent then None else Some self.top) }
@@ -77,7 +77,7 @@ impl Standing {
 pub(crate) struct Row<D> {
     pub(crate) node: Node<D>,
     pub(crate) size: u32,
-    pub(crate) links: Links,
+    pub(crate) links: Neighbours,
 }
 
 // Takes a row in. Fewer slots were made than the arena may make, so it is never full.
@@ -159,7 +159,7 @@ fn later_at<D>(rows: &mut Arena<Row<D>>, h: Handle, later: Option<Handle>)
 // Writes the first child of the frame, if one is named.
 pub(crate) fn set_first<D>(rows: &mut Arena<Row<D>>, h: Option<Handle>, first: Option<Handle>)
     requires { IfSome h (λ k. IsSome (live rows.old k)) }
-    ensures { Rewrites rows.old rows.new (at h (with_first first)) }
+    ensures { Rewrites rows.old rows.new (changed_at h (with_first first)) }
 {
     if let Some(h) = h {
         first_at(rows, h, first);
@@ -169,7 +169,7 @@ pub(crate) fn set_first<D>(rows: &mut Arena<Row<D>>, h: Option<Handle>, first: O
 // Writes the last child of the frame, if one is named.
 pub(crate) fn set_last<D>(rows: &mut Arena<Row<D>>, h: Option<Handle>, last: Option<Handle>)
     requires { IfSome h (λ k. IsSome (live rows.old k)) }
-    ensures { Rewrites rows.old rows.new (at h (with_last last)) }
+    ensures { Rewrites rows.old rows.new (changed_at h (with_last last)) }
 {
     if let Some(h) = h {
         last_at(rows, h, last);
@@ -179,7 +179,7 @@ pub(crate) fn set_last<D>(rows: &mut Arena<Row<D>>, h: Option<Handle>, last: Opt
 // Writes the sibling before the frame, if one is named.
 pub(crate) fn set_earlier<D>(rows: &mut Arena<Row<D>>, h: Option<Handle>, earlier: Option<Handle>)
     requires { IfSome h (λ k. IsSome (live rows.old k)) }
-    ensures { Rewrites rows.old rows.new (at h (with_earlier earlier)) }
+    ensures { Rewrites rows.old rows.new (changed_at h (with_earlier earlier)) }
 {
     if let Some(h) = h {
         earlier_at(rows, h, earlier);
@@ -189,7 +189,7 @@ pub(crate) fn set_earlier<D>(rows: &mut Arena<Row<D>>, h: Option<Handle>, earlie
 // Writes the sibling behind the frame, if one is named.
 pub(crate) fn set_later<D>(rows: &mut Arena<Row<D>>, h: Option<Handle>, later: Option<Handle>)
     requires { IfSome h (λ k. IsSome (live rows.old k)) }
-    ensures { Rewrites rows.old rows.new (at h (with_later later)) }
+    ensures { Rewrites rows.old rows.new (changed_at h (with_later later)) }
 {
     if let Some(h) = h {
         later_at(rows, h, later);

@@ -1,5 +1,5 @@
 use Rattle.std.proofs.Common.{◌≡◌, ◌≤◌, ◌+◌, ◌++◌, take, vec_len, vec_capacity}
-use Rattle.pe_frames.specs.Links.{Removes, docs_at}
+use Rattle.pe_frames.specs.Neighbours.{Removes, docs_at}
 use Rattle.pe_frames.proofs.removal.take_all.Given as goal
 
 abbrev pub invariant-loop-h : goal.invariant-loop-h

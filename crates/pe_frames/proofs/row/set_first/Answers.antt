@@ -1,4 +1,4 @@
-use Rattle.pe_frames.specs.Links.{with_first}
+use Rattle.pe_frames.specs.Neighbours.{with_first}
 use Rattle.pe_frames.proofs.Writes.{Rewrites-some}
 use Rattle.pe_frames.proofs.row.set_first.Goals as goal
 

@@ -1,6 +1,6 @@
 use Rattle.std.proofs.Common.{sym, ◌∙◌, refl, true≢false}
 use Rattle.pe_frames.specs.Forest.{same_handle}
-use Rattle.pe_frames.proofs.Nodes.{same_handle-Decides}
+use Rattle.pe_frames.proofs.Handles.{same_handle-Decides}
 use Rattle.pe_frames.proofs.Under.{tree-seen}
 use Rattle.pe_frames.proofs.Climbing.{differ, agree, within-root, within-top, within-up, within-down, parent-lives, parent-shorter}
 use Rattle.pe_frames.proofs.frames.Frames.climbs_to.Goals as goal

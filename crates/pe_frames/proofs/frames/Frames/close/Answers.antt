@@ -1,7 +1,7 @@
 use Rattle.std.proofs.Common.{◌+◌, ◌-◌, IsSome, [], ◌∷◌, ◌++◌, arith, ap, ◌∙◌, sym, subst}
 use Rattle.pe_frames.specs.Forest.{Forest, StayDead, entry_of}
 use Rattle.pe_frames.specs.Order.{closed, docs_under}
-use Rattle.pe_frames.specs.Links.{docs_at}
+use Rattle.pe_frames.specs.Neighbours.{docs_at}
 use Rattle.pe_frames.specs.Kept.{forest_in}
 use Rattle.pe_frames.proofs.Closing.{leaves-at, once-left, few-left, pages-left, earlier-left, later-left, parent-left, docs-left, page-left_lives, page-left_large, IsForest-left, dead-left, entries-left, StayDead-left, IsDead-left}
 use Rattle.pe_frames.proofs.frames.Frames.close.Goals as goal

@@ -3,7 +3,7 @@ use Rattle.std.specs.Prelude.{IsSomeAnd}
 use Rattle.pe_frames.specs.declared.row.Row.{Row}
 use Rattle.pe_frames.specs.Forest.{Forest, Gives, StayDead, page_size, entry_of, top_of, depth_of}
 use Rattle.pe_frames.specs.Order.{head_of}
-use Rattle.pe_frames.specs.Links.{young}
+use Rattle.pe_frames.specs.Neighbours.{children_newest_first}
 use Rattle.pe_frames.specs.Kept.{kept, entries_in, forest_in}
 use Rattle.pe_frames.proofs.Below.{below-of}
 use Rattle.pe_frames.proofs.Embedded.{Embeds, top-live, top-room, parent-live, last-live, makes-below, IsForest-below, IsSwept-below, entries-below, new-below, Gives-below, StayDead-below}
@@ -19,7 +19,7 @@ grow_page-requires-clause-live g c =
     let h = c.in-Ok.h in
     let row : Row _ = record { node = c.below-node.result; size = 0; links = c.behind-links.result } in
     let embeds : Embeds s mid order p place h c.args.frame c.args.doc row = record {
-      below = below-of (entries_in (kept s order [])) p place (subst (λ (f : Forest _). IsSomeAnd (entry_of f.entries p) (λ e. place ≡ record { top = top_of e; depth = depth_of e + 1; last = head_of (young f.entries p) })) (sym c.self.view_is) c.in_ok-place.ensures.place);
+      below = below-of (entries_in (kept s order [])) p place (subst (λ (f : Forest _). IsSomeAnd (entry_of f.entries p) (λ e. place ≡ record { top = top_of e; depth = depth_of e + 1; last = head_of (children_newest_first f.entries p) })) (sym c.self.view_is) c.in_ok-place.ensures.place);
       room = subst (λ (f : Forest _). page_size f.entries place.top ≢ 256) (sym c.self.view_is) c.in_ok-place.ensures.room;
       deep = c.in_ok-place.ensures.depth;
       new = c.in-Ok.ensures.new;
@@ -42,7 +42,7 @@ grow_page-requires-clause-room g c =
     let h = c.in-Ok.h in
     let row : Row _ = record { node = c.below-node.result; size = 0; links = c.behind-links.result } in
     let embeds : Embeds s mid order p place h c.args.frame c.args.doc row = record {
-      below = below-of (entries_in (kept s order [])) p place (subst (λ (f : Forest _). IsSomeAnd (entry_of f.entries p) (λ e. place ≡ record { top = top_of e; depth = depth_of e + 1; last = head_of (young f.entries p) })) (sym c.self.view_is) c.in_ok-place.ensures.place);
+      below = below-of (entries_in (kept s order [])) p place (subst (λ (f : Forest _). IsSomeAnd (entry_of f.entries p) (λ e. place ≡ record { top = top_of e; depth = depth_of e + 1; last = head_of (children_newest_first f.entries p) })) (sym c.self.view_is) c.in_ok-place.ensures.place);
       room = subst (λ (f : Forest _). page_size f.entries place.top ≢ 256) (sym c.self.view_is) c.in_ok-place.ensures.room;
       deep = c.in_ok-place.ensures.depth;
       new = c.in-Ok.ensures.new;
@@ -65,7 +65,7 @@ link-requires-clause-parent g c =
     let h = c.in-Ok.h in
     let row : Row _ = record { node = c.below-node.result; size = 0; links = c.behind-links.result } in
     let embeds : Embeds s mid order p place h c.args.frame c.args.doc row = record {
-      below = below-of (entries_in (kept s order [])) p place (subst (λ (f : Forest _). IsSomeAnd (entry_of f.entries p) (λ e. place ≡ record { top = top_of e; depth = depth_of e + 1; last = head_of (young f.entries p) })) (sym c.self.view_is) c.in_ok-place.ensures.place);
+      below = below-of (entries_in (kept s order [])) p place (subst (λ (f : Forest _). IsSomeAnd (entry_of f.entries p) (λ e. place ≡ record { top = top_of e; depth = depth_of e + 1; last = head_of (children_newest_first f.entries p) })) (sym c.self.view_is) c.in_ok-place.ensures.place);
       room = subst (λ (f : Forest _). page_size f.entries place.top ≢ 256) (sym c.self.view_is) c.in_ok-place.ensures.room;
       deep = c.in_ok-place.ensures.depth;
       new = c.in-Ok.ensures.new;
@@ -88,7 +88,7 @@ link-requires-clause-last g c =
     let h = c.in-Ok.h in
     let row : Row _ = record { node = c.below-node.result; size = 0; links = c.behind-links.result } in
     let embeds : Embeds s mid order p place h c.args.frame c.args.doc row = record {
-      below = below-of (entries_in (kept s order [])) p place (subst (λ (f : Forest _). IsSomeAnd (entry_of f.entries p) (λ e. place ≡ record { top = top_of e; depth = depth_of e + 1; last = head_of (young f.entries p) })) (sym c.self.view_is) c.in_ok-place.ensures.place);
+      below = below-of (entries_in (kept s order [])) p place (subst (λ (f : Forest _). IsSomeAnd (entry_of f.entries p) (λ e. place ≡ record { top = top_of e; depth = depth_of e + 1; last = head_of (children_newest_first f.entries p) })) (sym c.self.view_is) c.in_ok-place.ensures.place);
       room = subst (λ (f : Forest _). page_size f.entries place.top ≢ 256) (sym c.self.view_is) c.in_ok-place.ensures.room;
       deep = c.in_ok-place.ensures.depth;
       new = c.in-Ok.ensures.new;
@@ -111,7 +111,7 @@ invariant_of-self-2 g c =
     let h = c.in-Ok.h in
     let row : Row _ = record { node = c.below-node.result; size = 0; links = c.behind-links.result } in
     let embeds : Embeds s mid order p place h c.args.frame c.args.doc row = record {
-      below = below-of (entries_in (kept s order [])) p place (subst (λ (f : Forest _). IsSomeAnd (entry_of f.entries p) (λ e. place ≡ record { top = top_of e; depth = depth_of e + 1; last = head_of (young f.entries p) })) (sym c.self.view_is) c.in_ok-place.ensures.place);
+      below = below-of (entries_in (kept s order [])) p place (subst (λ (f : Forest _). IsSomeAnd (entry_of f.entries p) (λ e. place ≡ record { top = top_of e; depth = depth_of e + 1; last = head_of (children_newest_first f.entries p) })) (sym c.self.view_is) c.in_ok-place.ensures.place);
       room = subst (λ (f : Forest _). page_size f.entries place.top ≢ 256) (sym c.self.view_is) c.in_ok-place.ensures.room;
       deep = c.in_ok-place.ensures.depth;
       new = c.in-Ok.ensures.new;
@@ -138,7 +138,7 @@ returns-clause-entries g c =
     let h = c.in-Ok.h in
     let row : Row _ = record { node = c.below-node.result; size = 0; links = c.behind-links.result } in
     let embeds : Embeds s mid order p place h c.args.frame c.args.doc row = record {
-      below = below-of (entries_in (kept s order [])) p place (subst (λ (f : Forest _). IsSomeAnd (entry_of f.entries p) (λ e. place ≡ record { top = top_of e; depth = depth_of e + 1; last = head_of (young f.entries p) })) (sym c.self.view_is) c.in_ok-place.ensures.place);
+      below = below-of (entries_in (kept s order [])) p place (subst (λ (f : Forest _). IsSomeAnd (entry_of f.entries p) (λ e. place ≡ record { top = top_of e; depth = depth_of e + 1; last = head_of (children_newest_first f.entries p) })) (sym c.self.view_is) c.in_ok-place.ensures.place);
       room = subst (λ (f : Forest _). page_size f.entries place.top ≢ 256) (sym c.self.view_is) c.in_ok-place.ensures.room;
       deep = c.in_ok-place.ensures.depth;
       new = c.in-Ok.ensures.new;
@@ -162,7 +162,7 @@ returns-clause-made g c =
     let h = c.in-Ok.h in
     let row : Row _ = record { node = c.below-node.result; size = 0; links = c.behind-links.result } in
     let embeds : Embeds s mid order p place h c.args.frame c.args.doc row = record {
-      below = below-of (entries_in (kept s order [])) p place (subst (λ (f : Forest _). IsSomeAnd (entry_of f.entries p) (λ e. place ≡ record { top = top_of e; depth = depth_of e + 1; last = head_of (young f.entries p) })) (sym c.self.view_is) c.in_ok-place.ensures.place);
+      below = below-of (entries_in (kept s order [])) p place (subst (λ (f : Forest _). IsSomeAnd (entry_of f.entries p) (λ e. place ≡ record { top = top_of e; depth = depth_of e + 1; last = head_of (children_newest_first f.entries p) })) (sym c.self.view_is) c.in_ok-place.ensures.place);
       room = subst (λ (f : Forest _). page_size f.entries place.top ≢ 256) (sym c.self.view_is) c.in_ok-place.ensures.room;
       deep = c.in_ok-place.ensures.depth;
       new = c.in-Ok.ensures.new;
@@ -186,7 +186,7 @@ returns-clause-new g c =
     let h = c.in-Ok.h in
     let row : Row _ = record { node = c.below-node.result; size = 0; links = c.behind-links.result } in
     let embeds : Embeds s mid order p place h c.args.frame c.args.doc row = record {
-      below = below-of (entries_in (kept s order [])) p place (subst (λ (f : Forest _). IsSomeAnd (entry_of f.entries p) (λ e. place ≡ record { top = top_of e; depth = depth_of e + 1; last = head_of (young f.entries p) })) (sym c.self.view_is) c.in_ok-place.ensures.place);
+      below = below-of (entries_in (kept s order [])) p place (subst (λ (f : Forest _). IsSomeAnd (entry_of f.entries p) (λ e. place ≡ record { top = top_of e; depth = depth_of e + 1; last = head_of (children_newest_first f.entries p) })) (sym c.self.view_is) c.in_ok-place.ensures.place);
       room = subst (λ (f : Forest _). page_size f.entries place.top ≢ 256) (sym c.self.view_is) c.in_ok-place.ensures.room;
       deep = c.in_ok-place.ensures.depth;
       new = c.in-Ok.ensures.new;
@@ -209,7 +209,7 @@ returns-clause-marks g c =
     let h = c.in-Ok.h in
     let row : Row _ = record { node = c.below-node.result; size = 0; links = c.behind-links.result } in
     let embeds : Embeds s mid order p place h c.args.frame c.args.doc row = record {
-      below = below-of (entries_in (kept s order [])) p place (subst (λ (f : Forest _). IsSomeAnd (entry_of f.entries p) (λ e. place ≡ record { top = top_of e; depth = depth_of e + 1; last = head_of (young f.entries p) })) (sym c.self.view_is) c.in_ok-place.ensures.place);
+      below = below-of (entries_in (kept s order [])) p place (subst (λ (f : Forest _). IsSomeAnd (entry_of f.entries p) (λ e. place ≡ record { top = top_of e; depth = depth_of e + 1; last = head_of (children_newest_first f.entries p) })) (sym c.self.view_is) c.in_ok-place.ensures.place);
       room = subst (λ (f : Forest _). page_size f.entries place.top ≢ 256) (sym c.self.view_is) c.in_ok-place.ensures.room;
       deep = c.in_ok-place.ensures.depth;
       new = c.in-Ok.ensures.new;
@@ -233,7 +233,7 @@ returns-clause-dead g c =
     let h = c.in-Ok.h in
     let row : Row _ = record { node = c.below-node.result; size = 0; links = c.behind-links.result } in
     let embeds : Embeds s mid order p place h c.args.frame c.args.doc row = record {
-      below = below-of (entries_in (kept s order [])) p place (subst (λ (f : Forest _). IsSomeAnd (entry_of f.entries p) (λ e. place ≡ record { top = top_of e; depth = depth_of e + 1; last = head_of (young f.entries p) })) (sym c.self.view_is) c.in_ok-place.ensures.place);
+      below = below-of (entries_in (kept s order [])) p place (subst (λ (f : Forest _). IsSomeAnd (entry_of f.entries p) (λ e. place ≡ record { top = top_of e; depth = depth_of e + 1; last = head_of (children_newest_first f.entries p) })) (sym c.self.view_is) c.in_ok-place.ensures.place);
       room = subst (λ (f : Forest _). page_size f.entries place.top ≢ 256) (sym c.self.view_is) c.in_ok-place.ensures.room;
       deep = c.in_ok-place.ensures.depth;
       new = c.in-Ok.ensures.new;

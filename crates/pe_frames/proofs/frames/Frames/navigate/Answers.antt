@@ -2,7 +2,7 @@ use Rattle.std.proofs.Common.{◌≡◌, IsSome, Some, [], ◌∷◌, ◌++◌, 
 use Rattle.pe_arena.specs.Slots.{live}
 use Rattle.pe_frames.specs.Forest.{Forest, StayDead, entry_of}
 use Rattle.pe_frames.specs.Order.{navigated, docs_under}
-use Rattle.pe_frames.specs.Links.{docs_at}
+use Rattle.pe_frames.specs.Neighbours.{docs_at}
 use Rattle.pe_frames.specs.Kept.{forest_in}
 use Rattle.pe_frames.proofs.Writes.{if_some}
 use Rattle.pe_frames.proofs.Cuts.{Sweeps-none}

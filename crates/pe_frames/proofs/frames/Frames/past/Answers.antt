@@ -1,6 +1,6 @@
 use Rattle.std.proofs.Common.{sym, ◌∙◌}
 use Rattle.pe_frames.specs.Forest.{same_handle}
-use Rattle.pe_frames.proofs.Nodes.{same_handle-Decides}
+use Rattle.pe_frames.proofs.Handles.{same_handle-Decides}
 use Rattle.pe_frames.proofs.Standings.{no-entry, stands-at}
 use Rattle.pe_frames.proofs.Under.{tree-seen}
 use Rattle.pe_frames.proofs.Climbing.{differ, agree, within-top, within-up, parent-shorter, past-root, past-later, past-none, parent-stands, within-dead}

@@ -4,7 +4,7 @@ use Rattle.std.specs.Option.{option_map}
 use Rattle.pe_arena.specs.declared.handle.Handle.{Handle}
 use Rattle.pe_arena.specs.Slots.{Slots, live}
 use Rattle.pe_frames.specs.declared.row.Row.{Row}
-use Rattle.pe_frames.specs.declared.row.Links.{Links}
+use Rattle.pe_frames.specs.declared.row.Neighbours.{Neighbours}
 use Rattle.pe_frames.specs.Forest.{Entry, last_of, has_handle}
 use Rattle.pe_frames.specs.Order.{is_named, head_of, after, is_child}
 
@@ -14,23 +14,23 @@ before h [] = None
 before h (k ∷ ks) = cond (is_named (head_of ks) h) (Some k) (before h ks)
 
 -- the links of the named frame, with the handles of its children and of those of its parent, newest first
-abbrev pub links_by : List Handle → List Handle → Handle → Links
+abbrev pub links_by : List Handle → List Handle → Handle → Neighbours
 links_by own siblings h = record { first = last_of own; last = head_of own; earlier = after h siblings; later = before h siblings }
 
 module _ {D : Type 0} where
   -- the handles of the frames that the named one embeds, newest first
-  abbrev pub young : List (Entry D) → Handle → List Handle
-  young [] h = []
-  young (e ∷ es) h = cond (is_child h e) (e.handle ∷ young es h) (young es h)
+  abbrev pub children_newest_first : List (Entry D) → Handle → List Handle
+  children_newest_first [] h = []
+  children_newest_first (e ∷ es) h = cond (is_child h e) (e.handle ∷ children_newest_first es h) (children_newest_first es h)
 
   -- the handles of the frames that this parent embeds, if there is one, newest first
   abbrev pub siblings : List (Entry D) → Option Handle → List Handle
   siblings es None = []
-  siblings es (Some p) = young es p
+  siblings es (Some p) = children_newest_first es p
 
   -- the links of the frame with this handle and parent
-  abbrev pub links_in : List (Entry D) → Handle → Option Handle → Links
-  links_in es h parent = links_by (young es h) (siblings es parent) h
+  abbrev pub links_in : List (Entry D) → Handle → Option Handle → Neighbours
+  links_in es h parent = links_by (children_newest_first es h) (siblings es parent) h
 
   -- the slots have the marks that they had, and as many rows were taken in
   pub record SameMarks (old new : Slots (Row D)) : Type 0 where
@@ -45,8 +45,8 @@ module _ {D : Type 0} where
     pub same : SameMarks old new
 
   -- the change of the named row alone
-  abbrev pub at : Option Handle → (Row D → Row D) → Handle → Row D → Row D
-  at o f k r = cond (is_named o k) (f r) r
+  abbrev pub changed_at : Option Handle → (Row D → Row D) → Handle → Row D → Row D
+  changed_at o f k r = cond (is_named o k) (f r) r
 
   -- the row, with this first child
   abbrev pub with_first : Option Handle → Row D → Row D
@@ -66,19 +66,19 @@ module _ {D : Type 0} where
 
   -- the new frame is the last child of the parent, and stands behind this sibling, if there is one
   abbrev pub linked : Handle → Option Handle → Handle → Handle → Row D → Row D
-  linked parent last h k r = at (Some parent) (with_last (Some h)) k (at (cond (is_none last) (Some parent) None) (with_first (Some h)) k (at last (with_later (Some h)) k r))
+  linked parent last h k r = changed_at (Some parent) (with_last (Some h)) k (changed_at (cond (is_none last) (Some parent) None) (with_first (Some h)) k (changed_at last (with_later (Some h)) k r))
 
   -- the frame with these links is gone from among the children of its parent
-  abbrev pub unlinked : Links → Option Handle → Handle → Row D → Row D
+  abbrev pub unlinked : Neighbours → Option Handle → Handle → Row D → Row D
   unlinked l parent k r =
-      at (cond (is_none l.later) parent None) (with_last l.earlier) k
-      (at (cond (is_none l.earlier) parent None) (with_first l.later) k
-      (at l.later (with_earlier l.earlier) k
-      (at l.earlier (with_later l.later) k r)))
+      changed_at (cond (is_none l.later) parent None) (with_last l.earlier) k
+      (changed_at (cond (is_none l.earlier) parent None) (with_first l.later) k
+      (changed_at l.later (with_earlier l.earlier) k
+      (changed_at l.earlier (with_later l.later) k r)))
 
   -- the row, with so many frames less in the page
-  abbrev pub smaller : ℕ → Row D → Row D
-  smaller n r = record r { size = r.size - n }
+  abbrev pub with_fewer_frames : ℕ → Row D → Row D
+  with_fewer_frames n r = record r { size = r.size - n }
 
   -- with this document, and no child
   abbrev pub renewed : D → Row D → Row D
