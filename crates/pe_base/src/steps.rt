@@ -2,6 +2,7 @@
 ghost use Rattle.std.specs.Prelude.{◌≡◌, ◌+◌, ◌<◌};
 
 use std::marker::Model;
+use std::mem::size_of;
 use std::sync::ledger::{Blank, Book, Ledger, Share};
 
 /// How many steps were counted. It has no bytes at run time: the count stands in contracts alone.
@@ -29,6 +30,7 @@ impl<L: Ledger> Steps<L> {
         requires some { 0 < blank.parts }
         ensures { result ≡ 0 }
     {
+        prove!(size_of::<Steps<L>>() == 0);
         let (book, share) = blank.open::<L>();
         Steps { book, share }
     }

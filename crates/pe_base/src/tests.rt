@@ -1,5 +1,5 @@
 //! What no contract says: that there is memory for a copy, and that the comparisons serve at run time.
-ghost use Rattle.std.specs.Prelude.{◌≡◌, ◌<◌};
+ghost use Rattle.std.specs.Prelude.{◌≡◌, ◌+◌, ◌<◌};
 
 use crate::{Bytes, DocNo, FrameNo, Steps};
 use std::cmp::Ordering;
@@ -35,18 +35,25 @@ fn numbers_compare(rt: HostRuntime) {
     assert_eq!(rt; FrameNo::of(1_000_000).get(), 1_000_000);
 }
 
-/// Two counted steps; that there are two is proved.
-fn count_two<L: Ledger>(blank: Blank)
+/// Counts two more steps.
+fn count_two<L: Ledger>(steps: &mut Steps<L>)
+    ensures { steps.new ≡ steps.old + 2 }
+{
+    steps.tick();
+    steps.tick();
+}
+
+/// Counts two steps from a new count.
+fn count_from_start<L: Ledger>(blank: Blank)
     requires name { blank.name ≡ L.name }
     requires parts { blank.parts ≡ L.parts }
     requires some { 0 < blank.parts }
 {
     let mut steps: Steps<L> = Steps::start(blank);
-    steps.tick();
-    steps.tick();
+    count_two(&mut steps);
 }
 
 #[test]
 fn steps_are_counted() {
-    count_two::<Brand>(Blank::new(1));
+    count_from_start::<Brand>(Blank::new(1));
 }

@@ -203,3 +203,20 @@ fn headers_are_read(rt: HostRuntime) -> Result<(), Fail> {
     }
     Ok(())
 }
+
+/// A header of 15,013 bytes, whose last member of a key counts.
+#[test]
+fn a_large_header_is_read(rt: HostRuntime) -> Result<(), Fail> {
+    let own = origin(rt.alloc(), "https://a.example")?;
+    let other = origin(rt.alloc(), "https://b.example")?;
+    let mut field = Vec::new(rt.alloc());
+    for _ in 0..500 {
+        field.extend_from_slice(b"camera=(\"https://b.example\"), ")?;
+    }
+    field.extend_from_slice(b"camera=(self)")?;
+    assert_eq!(rt; field.len(), 15_013);
+    let declared = read_header(rt.alloc(), Some(field.as_slice()), &own)?;
+    assert_eq!(rt; admits(&declared, Feature::Camera, &own), Some(true));
+    assert_eq!(rt; admits(&declared, Feature::Camera, &other), Some(false));
+    Ok(())
+}

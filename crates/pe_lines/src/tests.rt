@@ -124,6 +124,20 @@ fn words_have_their_places(rt: HostRuntime) -> Result<(), Fail> {
     Ok(())
 }
 
+/// The longest line, of 8,192 words.
+#[test]
+fn words_of_the_longest_line(rt: HostRuntime) -> Result<(), Fail> {
+    let mut line = Vec::new(rt.alloc());
+    for _ in 0..8_192 {
+        line.extend_from_slice(b"x ")?;
+    }
+    assert_eq!(rt; line.len(), 16_384);
+    let found = shown(rt.alloc(), line.as_slice())?;
+    assert_eq!(rt; found.iter().filter(|b| **b == b'|').count(), 8_192);
+    assert!(rt; found.as_slice().ends_with(b"|16380-16381 x|16382-16383 x|"));
+    Ok(())
+}
+
 #[test]
 fn lines_without_words_have_their_faults(rt: HostRuntime) {
     let rows: [(&[u8], WordFault); 10] = [

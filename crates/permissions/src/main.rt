@@ -1,9 +1,14 @@
 //! The program `permissions`: does what its arguments ask for, over standard input and output.
 #![tactic(auto)]
 
+ghost use Rattle.std.specs.Prelude.{◌≡◌, ◌≢◌};
+ghost use Rattle.std.specs.IoError.{error_kind};
+ghost use Rattle.permissions.specs.ExitStatuses as spec;
+
 use pe_io::{StdSink, StdSource};
 use pe_session::{Status, serve};
 use std::alloc::AllocError;
+use std::io::ErrorKind;
 use std::process::ExitCode;
 use std::{env, io};
 
@@ -11,7 +16,9 @@ use std::{env, io};
 const NO_TEXT: u8 = 9;
 
 /// The exit status of each way to end.
-fn exit_status(status: Status) -> u8 {
+fn exit_status(status: Status) -> u8
+    ensures { result ≡ spec.exit_status status }
+{
     match status {
         Status::Clean => 0,
         Status::Refusals => 1,
@@ -24,8 +31,11 @@ fn exit_status(status: Status) -> u8 {
 }
 
 /// The exit status where the arguments cannot be had.
-fn status_without_words(error: &io::Error) -> u8 {
-    if error.kind() == io::ErrorKind::OutOfMemory {
+fn status_without_words(error: &io::Error) -> u8
+    ensures memory { error_kind error.now ≡ ErrorKind.OutOfMemory → result ≡ spec.exit_status Status.Memory }
+    ensures text { error_kind error.now ≢ ErrorKind.OutOfMemory → result ≡ NO_TEXT }
+{
+    if error.kind() == ErrorKind::OutOfMemory {
         exit_status(Status::Memory)
     } else {
         NO_TEXT

@@ -1,4 +1,4 @@
 use Rattle.pe_base.proofs.tests.steps_are_counted.Given as goal
 
-abbrev pub ghosts-count_two : goal.ghosts-count_two
-ghosts-count_two a = record { name = a.blank.name; parts = a.blank.parts }
+abbrev pub ghosts-count_from_start : goal.ghosts-count_from_start
+ghosts-count_from_start a = record { name = a.blank.name; parts = a.blank.parts }
