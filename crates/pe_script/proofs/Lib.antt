@@ -1,1 +1,3 @@
 pub mod OnLiterals
+mod Digits
+mod Tables

@@ -1,2 +1,6 @@
 //! Reading the lines of a script.
 #![tactic(auto)]
+
+mod names;
+mod numerals;
+mod words;
