@@ -3,3 +3,4 @@ pub mod Names
 pub mod Verbs
 pub mod Reading
 pub mod Taking
+pub mod OptionSteps

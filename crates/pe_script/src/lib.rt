@@ -3,4 +3,5 @@
 
 mod names;
 mod numerals;
+mod options;
 mod words;

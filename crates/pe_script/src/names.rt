@@ -78,7 +78,7 @@ fn row_named<T: Copy>(table: &[(&'static str, T)], name: &[u8]) -> Option<(&'sta
 }
 
 /// The value of the first row of this name.
-fn named_in<T: Copy>(table: &[(&'static str, T)], name: &[u8]) -> Option<T>
+pub fn named_in<T: Copy>(table: &[(&'static str, T)], name: &[u8]) -> Option<T>
     ensures { result ≡ named_in (map (λ row. (row.0.now, row.1)) table.now) name.now }
 {
     match row_named(table, name) {

@@ -1,5 +1,5 @@
 //! The words of a line, taken one after another.
-ghost use Rattle.std.specs.Prelude.{◌≡◌, ◌∷◌, [], MatchOption};
+ghost use Rattle.std.specs.Prelude.{◌≡◌, ◌↔◌, ◌∷◌, [], IsTrue, MatchOption, length};
 ghost use Rattle.pe_script.specs.Taking.{one, two, three, four};
 
 use pe_lines::Word;
@@ -34,19 +34,60 @@ impl<'a> Words<'a> {
 
     /// Takes the next word.
     pub fn next(&mut self) -> Option<Word<'a>>
-        ensures { MatchOption result (self.old ≡ []) (λ word. self.old ≡ word ∷ self.new) }
+        ensures { MatchOption result ((self.old ≡ []) × (self.new ≡ [])) (λ word. self.old ≡ word ∷ self.new) }
     {
         self.rest.next()
     }
 
-    /// The words where there is one.
+    /// Whether no word is left.
+    pub fn is_empty(&self) -> bool
+        ensures { IsTrue result ↔ (self.now ≡ []) }
+    {
+        self.rest.len() == 0
+    }
+
+    /// How many words are left.
+    pub fn len(&self) -> usize
+        ensures { result ≡ length self.now }
+    {
+        self.rest.len()
+    }
+
+    /// The word, where there is one.
     pub fn one(mut self) -> Option<Word<'a>>
         ensures { result ≡ one self.entry }
     {
         let first = self.next()?;
-        match self.next() {
-            None => Some(first),
-            Some(_) => None,
+        if !self.is_empty() {
+            return None;
         }
+        Some(first)
+    }
+
+    /// The words, where there are two.
+    pub fn two(mut self) -> Option<(Word<'a>, Word<'a>)>
+        ensures { result ≡ two self.entry }
+    {
+        let first = self.next()?;
+        let second = self.one()?;
+        Some((first, second))
+    }
+
+    /// The words, where there are three.
+    pub fn three(mut self) -> Option<(Word<'a>, Word<'a>, Word<'a>)>
+        ensures { result ≡ three self.entry }
+    {
+        let first = self.next()?;
+        let (second, third) = self.two()?;
+        Some((first, second, third))
+    }
+
+    /// The words, where there are four.
+    pub fn four(mut self) -> Option<(Word<'a>, Word<'a>, Word<'a>, Word<'a>)>
+        ensures { result ≡ four self.entry }
+    {
+        let first = self.next()?;
+        let (second, third, fourth) = self.three()?;
+        Some((first, second, third, fourth))
     }
 }
