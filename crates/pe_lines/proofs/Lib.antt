@@ -5,4 +5,5 @@ pub mod Going
 pub mod Ahead
 pub mod Agreement
 pub mod Found
+mod PlainTexts
 mod Rows

@@ -1,6 +1,7 @@
 //! A text of a line.
-ghost use Rattle.std.specs.Prelude.{◌≡◌};
+ghost use Rattle.std.specs.Prelude.{◌≡◌, ◌++◌, IfOk};
 
+use std::alloc::{AllocError, Global};
 use std::marker::Model;
 
 /// Where the bytes of a text stand.
@@ -44,6 +45,32 @@ impl<'a> Text<'a> {
     {
         Text {
             place: Place::Lent(bytes),
+        }
+    }
+
+    /// A text with a separator and more bytes behind it. It owns its bytes, and what the text owned
+    /// before is grown. `AllocError` where memory wants.
+    pub fn joined(
+        alloc: Global,
+        front: Text<'a>,
+        separator: &[u8],
+        back: &[u8],
+    ) -> Result<Text<'a>, AllocError>
+        ensures { IfOk result (λ text. text ≡ front.entry ++ separator.now ++ back.now) }
+    {
+        let mut bytes = front.into_bytes(alloc)?;
+        bytes.extend_from_slice(separator)?;
+        bytes.extend_from_slice(back)?;
+        Ok(Text::of(bytes))
+    }
+
+    /// The bytes, which are copied where they are lent.
+    fn into_bytes(self, alloc: Global) -> Result<Vec<u8>, AllocError>
+        ensures { IfOk result (λ bytes. bytes.items ≡ self.entry) }
+    {
+        match self.place {
+            Place::Lent(bytes) => Vec::from_slice(alloc, bytes),
+            Place::Owned(bytes) => Ok(bytes),
         }
     }
 

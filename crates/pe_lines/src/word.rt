@@ -1,5 +1,5 @@
 //! The words of a line.
-ghost use Rattle.std.specs.Prelude.{◌≡◌, ◌<◌, ◌≤◌, ◌↔◌, Some, None, IfOk, IfErr, IfSome, IfNone, IsErrOf, length, slice_index, true, false};
+ghost use Rattle.std.specs.Prelude.{◌≡◌, ◌<◌, ◌≤◌, ◌↔◌, Some, None, IfOk, IfErr, IfSome, IfNone, IsErrOf, length, slice_index, true, false, All};
 ghost use Rattle.std.specs.List.{position, position_or_len};
 ghost use Rattle.pe_lines.specs.Words.{is_blank, is_bad_byte, has_bad_byte, words_of};
 ghost use Rattle.pe_lines.specs.Grammar.{ends_bare, ends_word, is_escaped};
@@ -257,8 +257,10 @@ fn words_of<'a>(alloc: Global, line: &'a [u8]) -> Result<Vec<Word<'a>>, WordFaul
 ///
 /// A bare word is a run of bytes other than blanks and `"`. A quoted word is `"`, then any bytes in
 /// which `\"` stands for `"` and `\\` for `\`, then `"`. Behind a word stands a blank or the end.
+#[tactic(auto, using(crate::proofs::PlainTexts::plain_words))]
 pub fn words<'a>(alloc: Global, line: &'a [u8]) -> Result<Vec<Word<'a>>, WordFault>
     ensures words { IfOk result (λ words. words_of line.now ≡ Some words.items) }
+    ensures plain { IfOk result (λ words. All (λ word. has_bad_byte word.text ≡ false) words.items) }
 
     // A bad byte comes first, and is looked for before any memory is taken.
     ensures bad_byte { IsErrOf result WordFault.BadByte ↔ (has_bad_byte line.now ≡ true) }

@@ -1,1 +1,4 @@
 pub mod OnLiterals
+mod Digits
+mod Tables
+mod OptionWords

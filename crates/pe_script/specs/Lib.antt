@@ -2,3 +2,5 @@ pub mod Numerals
 pub mod Names
 pub mod Verbs
 pub mod Reading
+pub mod Taking
+pub mod OptionSteps

@@ -1,2 +1,7 @@
 //! Reading the lines of a script.
 #![tactic(auto)]
+
+mod names;
+mod numerals;
+mod options;
+mod words;
