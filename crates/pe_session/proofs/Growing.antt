@@ -1,6 +1,7 @@
 -- What is kept, with one more event.
 use Rattle.std.proofs.Common.{◌≡◌, ◌≢◌, ℕ, zero, suc, ◌+◌, ◌<◌, ◌≤◌, Bool, true, false, ◌&&◌, ◌==◌, nat_lt, List, [], ◌∷◌, ◌++◌, length, filter, get_or, Option, Some, None, is_none, option_to_list, refl, sym, ◌∙◌, ap, arith, length-append, subst}
 use Rattle.std.proofs.lemmas.List.{length_push, get_or_at, get_or_append_left}
+use Rattle.std.proofs.Math.Nat.{add_comm}
 use Rattle.std.proofs.lemmas.List.Elements.{filter-append}
 use Rattle.std.proofs.lemmas.Bool.Decides.{nat_tests}
 use Rattle.pe_events.specs.declared.event.Event.{Event}
@@ -32,9 +33,10 @@ count-step : (s : Step) (T : Told) (old new : ℕ → Bool) → ((f : ℕ) → f
     → length (filter new (frames_made (s ∷ T))) ≡ length (filter old (frames_made T)) + length (filter new (frame_added s T))
 count-step s T old new same =
     ap (λ xs. length (filter new xs)) (frames-step s T)
-    ∙ ap length (filter-append new (frames_made T) (frame_added s T))
-    ∙ length-append (filter new (frames_made T)) (filter new (frame_added s T))
-    ∙ ap (λ xs. length xs + length (filter new (frame_added s T))) (filter-same (length T) new old (frames_made T) (frames-within T) same)
+    ∙ ap length (filter-append new (frame_added s T) (frames_made T))
+    ∙ length-append (filter new (frame_added s T)) (filter new (frames_made T))
+    ∙ ap (λ xs. length (filter new (frame_added s T)) + length xs) (filter-same (length T) new old (frames_made T) (frames-within T) same)
+    ∙ add_comm (length (filter new (frame_added s T))) (length (filter old (frames_made T)))
 
 pub pages-step : (s : Step) (T : Told) → IsQuiet s.event → length (live_pages (s ∷ T)) ≡ length (live_pages T) + length (filter (is_page (s ∷ T)) (frame_added s T))
 unfolding live_pages

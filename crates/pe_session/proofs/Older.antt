@@ -2,7 +2,7 @@
 use Rattle.std.proofs.Common.{◌≡◌, ◌≢◌, ℕ, suc, ◌≤◌, Bool, true, false, ◌&&◌, ◌==◌, List, [], ◌∷◌, ◌++◌, length, filter, Option, Some, None, is_some, option_map, option_and_then, option_to_list, refl, sym, ◌∙◌, ap, arith}
 use Rattle.pe_events.specs.declared.event.Event.{Event}
 use Rattle.pe_events.specs.declared.event.Event.TheVariants as event
-use Rattle.pe_rules.specs.History.{Step, Told, when, newest, each}
+use Rattle.pe_rules.specs.History.{Step, Told, when, newest, each_newest}
 use Rattle.pe_rules.specs.Numbering.{makes_frame, document_frame, is_frame, frames_made, last_document, parent_frame}
 use Rattle.pe_rules.specs.Embedders.{chain, first_or, top_document, page, page_of_frame}
 use Rattle.pe_rules.specs.Current.{ends, frames_above, is_current, document_in, is_live}
@@ -131,14 +131,14 @@ within-append : (n : ℕ) (ds es : List ℕ) → AllWithin n ds → AllWithin n 
 within-append n [] es h k = k
 within-append n (d ∷ ds) es h k = (h.0, within-append n ds es h.1 k)
 
-pub frames-step : (s : Step) (T : Told) → frames_made (s ∷ T) ≡ frames_made T ++ option_to_list (when (makes_frame s.event) (suc (length T)))
-unfolding frames_made each
+pub frames-step : (s : Step) (T : Told) → frames_made (s ∷ T) ≡ option_to_list (when (makes_frame s.event) (suc (length T))) ++ frames_made T
+unfolding frames_made each_newest
 frames-step s T = refl
 
 pub frames-within : (T : Told) → AllWithin (length T) (frames_made T)
-unfolding frames_made each
+unfolding frames_made each_newest
 frames-within [] = tt
-frames-within (s ∷ T) = within-append (suc (length T)) (frames_made T) (option_to_list (when (makes_frame s.event) (suc (length T)))) (within-more (length T) (frames_made T) (frames-within T)) (by_test (makes_frame s.event))
+frames-within (s ∷ T) = within-append (suc (length T)) (option_to_list (when (makes_frame s.event) (suc (length T)))) (frames_made T) (by_test (makes_frame s.event)) (within-more (length T) (frames_made T) (frames-within T))
   where
     by_test : (b : Bool) → AllWithin (suc (length T)) (option_to_list (when b (suc (length T))))
     by_test true = (omega arith, tt)

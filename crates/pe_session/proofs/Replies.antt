@@ -1,6 +1,7 @@
 -- What the events that are built are replied.
-use Rattle.std.proofs.Common.{◌≡◌, ◌≢◌, ℕ, zero, suc, ◌+◌, ◌<◌, ◌≤◌, Bool, true, false, List, [], ◌∷◌, ◌++◌, length, get_or, Option, Some, None, is_some, is_none, refl, sym, ◌∙◌, ap, arith, add-one, subst}
+use Rattle.std.proofs.Common.{◌≡◌, ◌≢◌, ℕ, zero, suc, ◌+◌, ◌<◌, ◌≤◌, Bool, true, false, nat_le, List, [], ◌∷◌, ◌++◌, length, get_or, Option, Some, None, is_some, is_none, refl, sym, ◌∙◌, ap, arith, add-one, subst}
 use Rattle.std.proofs.lemmas.List.{length_push}
+use Rattle.std.proofs.lemmas.Bool.Decides.{nat_tests}
 use Rattle.pe_features.specs.declared.feature.Feature.{Feature}
 use Rattle.pe_features.specs.declared.feature.DefaultList.{DefaultList}
 use Rattle.pe_features.specs.Features.{feature_named, default_of}
@@ -23,7 +24,7 @@ use Rattle.pe_rules.specs.Embedders.{depth}
 use Rattle.pe_rules.specs.Current.{document_in}
 use Rattle.pe_rules.specs.Origins.{origin_of_place, place_or_none}
 use Rattle.pe_rules.specs.Denials.{links, why_denied}
-use Rattle.pe_rules.specs.Settings.{setting_by}
+use Rattle.pe_rules.specs.Settings.{setting_named, setting_by}
 use Rattle.pe_rules.specs.Causes.{first_some, lacks_default, cause_of, names_unknown, names_settled, names_closed, names_not_shown, has_bad_url, has_bad_feature, has_bad_call, has_bad_capability, names_other_page, live_pages, live_frames, exceeds_pages, exceeds_depth, exceeds_frames, exceeds_statuses, exceeds_pending, exceeds_store}
 use Rattle.pe_rules.specs.Replies.{answer_of, new_origin, by_denial}
 use Rattle.pe_laws.proofs.Numbers.{not_same, is_same}
@@ -38,77 +39,81 @@ use Rattle.pe_session.proofs.Older.{quiet-open, quiet-embed, quiet-policy}
 use Rattle.pe_session.proofs.Opening.{kept-page, origin-page, kept-child, origin-child}
 use Rattle.pe_session.proofs.Growing.{live-kept, page-kept, pages-kept, keep-frame, keep-none, push-at, push-other, push-zero, zero-at-end}
 
+-- a number below another is not at least that
+is_few : (a b : ℕ) → a < b → nat_le b a ≡ false
+is_few a b h = grind (arith, nat_tests)
+
 -- ---- causes
 
 pub limit-events : (T : Told) (e : Event) → length T ≡ 1000000 → cause_of T 0 e ≡ Some cause.LimitEvents
 unfolding cause_of
 limit-events T e h = rw h refl
 
-open-url : (T : Told) (url : List ℕ) (header : Option (List ℕ)) → length T ≢ 1000000 → clock T ≡ 0 → place_at url ≡ None → cause_of T 0 (page_event url header) ≡ Some cause.Url
+open-url : (T : Told) (url : List ℕ) (header : Option (List ℕ)) → length T < 1000000 → clock T ≡ 0 → place_at url ≡ None → cause_of T 0 (page_event url header) ≡ Some cause.Url
 unfolding cause_of names_unknown names_settled names_closed names_not_shown has_bad_url
-open-url T url header room at place = rw (not_same (length T) 1000000 room, at, place) refl
+open-url T url header room at place = rw (is_few (length T) 1000000 room, at, place) refl
 
-open-pages : (T : Told) (url : List ℕ) (header : Option (List ℕ)) (p : Place) → length T ≢ 1000000 → clock T ≡ 0 → place_at url ≡ Some p → length (live_pages T) ≡ 64 → cause_of T 0 (page_event url header) ≡ Some cause.LimitPages
+open-pages : (T : Told) (url : List ℕ) (header : Option (List ℕ)) (p : Place) → length T < 1000000 → clock T ≡ 0 → place_at url ≡ Some p → length (live_pages T) ≡ 64 → cause_of T 0 (page_event url header) ≡ Some cause.LimitPages
 unfolding cause_of names_unknown names_settled names_closed names_not_shown has_bad_url has_bad_feature has_bad_call has_bad_capability names_other_page exceeds_pages
-open-pages T url header p room at place full = rw (not_same (length T) 1000000 room, at, place, full) refl
+open-pages T url header p room at place full = rw (is_few (length T) 1000000 room, at, place, full) refl
 
-open-none : (T : Told) (url : List ℕ) (header : Option (List ℕ)) (p : Place) → length T ≢ 1000000 → clock T ≡ 0 → place_at url ≡ Some p → length (live_pages T) ≢ 64 → cause_of T 0 (page_event url header) ≡ None
-unfolding cause_of names_unknown names_settled names_closed names_not_shown has_bad_url has_bad_feature has_bad_call has_bad_capability names_other_page exceeds_pages exceeds_depth exceeds_frames exceeds_statuses exceeds_pending exceeds_store setting_by
-open-none T url header p room at place few = rw (not_same (length T) 1000000 room, at, place, not_same (length (live_pages T)) 64 few) refl
+open-none : (T : Told) (url : List ℕ) (header : Option (List ℕ)) (p : Place) → length T < 1000000 → clock T ≡ 0 → place_at url ≡ Some p → length (live_pages T) < 64 → cause_of T 0 (page_event url header) ≡ None
+unfolding cause_of names_unknown names_settled names_closed names_not_shown has_bad_url has_bad_feature has_bad_call has_bad_capability names_other_page exceeds_pages exceeds_depth exceeds_frames exceeds_statuses exceeds_pending exceeds_store setting_named setting_by
+open-none T url header p room at place few = rw (is_few (length T) 1000000 room, at, place, is_few (length (live_pages T)) 64 few) refl
 
-embed-unknown : (T : Told) (parent : ℕ) (url : List ℕ) (header : Option (List ℕ)) → length T ≢ 1000000 → clock T ≡ 0 → is_frame T parent ≡ false → cause_of T 0 (child_event parent url header) ≡ Some cause.Unknown
+embed-unknown : (T : Told) (parent : ℕ) (url : List ℕ) (header : Option (List ℕ)) → length T < 1000000 → clock T ≡ 0 → is_frame T parent ≡ false → cause_of T 0 (child_event parent url header) ≡ Some cause.Unknown
 unfolding cause_of names_unknown
-embed-unknown T parent url header room at unmade = rw (not_same (length T) 1000000 room, at, unmade) refl
+embed-unknown T parent url header room at unmade = rw (is_few (length T) 1000000 room, at, unmade) refl
 
-embed-url : (T : Told) (parent : ℕ) (url : List ℕ) (header : Option (List ℕ)) (row : Frame) → length T ≢ 1000000 → clock T ≡ 0 → IsKept T parent row → place_at url ≡ None → cause_of T 0 (child_event parent url header) ≡ Some cause.Url
+embed-url : (T : Told) (parent : ℕ) (url : List ℕ) (header : Option (List ℕ)) (row : Frame) → length T < 1000000 → clock T ≡ 0 → IsKept T parent row → place_at url ≡ None → cause_of T 0 (child_event parent url header) ≡ Some cause.Url
 unfolding cause_of names_unknown names_settled names_closed names_not_shown has_bad_url
-embed-url T parent url header row room at w place = rw (not_same (length T) 1000000 room, at, w.made, live-kept T parent row w, place) refl
+embed-url T parent url header row room at w place = rw (is_few (length T) 1000000 room, at, w.made, live-kept T parent row w, place) refl
 
 depth-kept : (T : Told) (k : ℕ) (row : Frame) → IsKept T k row → depth T k ≡ row.depth
 unfolding depth
 depth-kept T k row w = rw w.document w.depth
 
-embed-depth : (T : Told) (parent : ℕ) (url : List ℕ) (header : Option (List ℕ)) (row : Frame) (p : Place) → length T ≢ 1000000 → clock T ≡ 0 → IsKept T parent row → place_at url ≡ Some p → row.depth ≡ 64
+embed-depth : (T : Told) (parent : ℕ) (url : List ℕ) (header : Option (List ℕ)) (row : Frame) (p : Place) → length T < 1000000 → clock T ≡ 0 → IsKept T parent row → place_at url ≡ Some p → row.depth ≡ 64
     → cause_of T 0 (child_event parent url header) ≡ Some cause.LimitDepth
 unfolding cause_of names_unknown names_settled names_closed names_not_shown has_bad_url has_bad_feature has_bad_call has_bad_capability names_other_page exceeds_pages exceeds_depth
 embed-depth T parent url header row p room at w place deep =
-    rw (not_same (length T) 1000000 room, at, w.made, live-kept T parent row w, place, depth-kept T parent row w, deep) refl
+    rw (is_few (length T) 1000000 room, at, w.made, live-kept T parent row w, place, depth-kept T parent row w, deep) refl
 
-embed-frames : (T : Told) (parent : ℕ) (url : List ℕ) (header : Option (List ℕ)) (row : Frame) (p : Place) → length T ≢ 1000000 → clock T ≡ 0 → IsKept T parent row → place_at url ≡ Some p → row.depth ≢ 64
+embed-frames : (T : Told) (parent : ℕ) (url : List ℕ) (header : Option (List ℕ)) (row : Frame) (p : Place) → length T < 1000000 → clock T ≡ 0 → IsKept T parent row → place_at url ≡ Some p → row.depth < 64
     → length (live_frames T (row.page + 1)) ≡ 256 → cause_of T 0 (child_event parent url header) ≡ Some cause.LimitFrames
 unfolding cause_of names_unknown names_settled names_closed names_not_shown has_bad_url has_bad_feature has_bad_call has_bad_capability names_other_page exceeds_pages exceeds_depth exceeds_frames
 embed-frames T parent url header row p room at w place shallow full =
-    rw (not_same (length T) 1000000 room, at, w.made, live-kept T parent row w, place, depth-kept T parent row w, not_same row.depth 64 shallow, page-kept T parent row w, full) refl
+    rw (is_few (length T) 1000000 room, at, w.made, live-kept T parent row w, place, depth-kept T parent row w, is_few row.depth 64 shallow, page-kept T parent row w, full) refl
 
-embed-none : (T : Told) (parent : ℕ) (url : List ℕ) (header : Option (List ℕ)) (row : Frame) (p : Place) → length T ≢ 1000000 → clock T ≡ 0 → IsKept T parent row → place_at url ≡ Some p → row.depth ≢ 64
-    → length (live_frames T (row.page + 1)) ≢ 256 → cause_of T 0 (child_event parent url header) ≡ None
-unfolding cause_of names_unknown names_settled names_closed names_not_shown has_bad_url has_bad_feature has_bad_call has_bad_capability names_other_page exceeds_pages exceeds_depth exceeds_frames exceeds_statuses exceeds_pending exceeds_store setting_by
+embed-none : (T : Told) (parent : ℕ) (url : List ℕ) (header : Option (List ℕ)) (row : Frame) (p : Place) → length T < 1000000 → clock T ≡ 0 → IsKept T parent row → place_at url ≡ Some p → row.depth < 64
+    → length (live_frames T (row.page + 1)) < 256 → cause_of T 0 (child_event parent url header) ≡ None
+unfolding cause_of names_unknown names_settled names_closed names_not_shown has_bad_url has_bad_feature has_bad_call has_bad_capability names_other_page exceeds_pages exceeds_depth exceeds_frames exceeds_statuses exceeds_pending exceeds_store setting_named setting_by
 embed-none T parent url header row p room at w place shallow few =
     rw (
-      not_same (length T) 1000000 room,
+      is_few (length T) 1000000 room,
       at,
       w.made,
       live-kept T parent row w,
       place,
       depth-kept T parent row w,
-      not_same row.depth 64 shallow,
+      is_few row.depth 64 shallow,
       page-kept T parent row w,
-      not_same (length (live_frames T (row.page + 1))) 256 few,
+      is_few (length (live_frames T (row.page + 1))) 256 few,
     ) refl
 
-policy-unknown : (T : Told) (frame : ℕ) (name : List ℕ) → length T ≢ 1000000 → clock T ≡ 0 → is_frame T frame ≡ false → cause_of T 0 (event.PolicyOf frame name) ≡ Some cause.Unknown
+policy-unknown : (T : Told) (frame : ℕ) (name : List ℕ) → length T < 1000000 → clock T ≡ 0 → is_frame T frame ≡ false → cause_of T 0 (event.PolicyOf frame name) ≡ Some cause.Unknown
 unfolding cause_of names_unknown
-policy-unknown T frame name room at unmade = rw (not_same (length T) 1000000 room, at, unmade) refl
+policy-unknown T frame name room at unmade = rw (is_few (length T) 1000000 room, at, unmade) refl
 
-policy-feature : (T : Told) (frame : ℕ) (name : List ℕ) (row : Frame) → length T ≢ 1000000 → clock T ≡ 0 → IsKept T frame row → lacks_default name ≡ true → cause_of T 0 (event.PolicyOf frame name) ≡ Some cause.Feature
+policy-feature : (T : Told) (frame : ℕ) (name : List ℕ) (row : Frame) → length T < 1000000 → clock T ≡ 0 → IsKept T frame row → lacks_default name ≡ true → cause_of T 0 (event.PolicyOf frame name) ≡ Some cause.Feature
 unfolding cause_of names_unknown names_settled names_closed names_not_shown has_bad_url has_bad_feature
-policy-feature T frame name row room at w lacks = rw (not_same (length T) 1000000 room, at, w.made, live-kept T frame row w, lacks) refl
+policy-feature T frame name row room at w lacks = rw (is_few (length T) 1000000 room, at, w.made, live-kept T frame row w, lacks) refl
 
-policy-none : (T : Told) (frame : ℕ) (name : List ℕ) (row : Frame) (f : Feature) → length T ≢ 1000000 → clock T ≡ 0 → IsKept T frame row → feature_named name ≡ Some f → is_policy_controlled f ≡ true
+policy-none : (T : Told) (frame : ℕ) (name : List ℕ) (row : Frame) (f : Feature) → length T < 1000000 → clock T ≡ 0 → IsKept T frame row → feature_named name ≡ Some f → is_policy_controlled f ≡ true
     → cause_of T 0 (event.PolicyOf frame name) ≡ None
-unfolding cause_of names_unknown names_settled names_closed names_not_shown has_bad_url has_bad_feature has_bad_call has_bad_capability names_other_page exceeds_pages exceeds_depth exceeds_frames exceeds_statuses exceeds_pending exceeds_store setting_by
+unfolding cause_of names_unknown names_settled names_closed names_not_shown has_bad_url has_bad_feature has_bad_call has_bad_capability names_other_page exceeds_pages exceeds_depth exceeds_frames exceeds_statuses exceeds_pending exceeds_store setting_named setting_by
 policy-none T frame name row f room at w named controlled =
-    rw (not_same (length T) 1000000 room, at, w.made, live-kept T frame row w, named) (by_default (default_of f) controlled)
+    rw (is_few (length T) 1000000 room, at, w.made, live-kept T frame row w, named) (by_default (default_of f) controlled)
   where
     by_default : (d : Option DefaultList) → is_some d ≡ true → first_some (λ (x : Cause × Bool). when x.1 x.0) ((cause.Feature, is_none d) ∷ []) ≡ None
     by_default None e = cc
@@ -160,12 +165,12 @@ pub open-refused-limit : (T : Told) (events : Events) (e : Event) → Keeps even
 open-refused-limit T events e h many = record { cause = let all : length T ≡ 1000000 = omega (arith, h.count, h.few) in limit-events T e all; kept = h }
 
 pub open-refused-url : (T : Told) (events : Events) (url : List ℕ) (header : Option (List ℕ)) → Keeps events T → length events.frames < 1000000 → place_at url ≡ None → IsRefusal T (page_event url header) events cause.Url
-open-refused-url T events url header h few place = record { cause = let room : length T ≢ 1000000 = omega (arith, h.count) in open-url T url header room h.clock_is place; kept = h }
+open-refused-url T events url header h few place = record { cause = let room : length T < 1000000 = omega (arith, h.count) in open-url T url header room h.clock_is place; kept = h }
 
 pub open-refused-pages : (T : Told) (events : Events) (url : List ℕ) (header : Option (List ℕ)) (p : Place) → Keeps events T → length events.frames < 1000000 → place_at url ≡ Some p → 64 ≤ events.pages
     → IsRefusal T (page_event url header) events cause.LimitPages
 open-refused-pages T events url header p h few place many = record {
-  cause = let room : length T ≢ 1000000 = omega (arith, h.count) in let full : length (live_pages T) ≡ 64 = omega (arith, h.pages_are, h.few_pages) in open-pages T url header p room h.clock_is place full;
+  cause = let room : length T < 1000000 = omega (arith, h.count) in let full : length (live_pages T) ≡ 64 = omega (arith, h.pages_are, h.few_pages) in open-pages T url header p room h.clock_is place full;
   kept = h;
 }
 
@@ -184,9 +189,9 @@ pub open-accepted : (duration : ℕ) (T : Told) (old new : Events) (url : List �
     → new.frames ≡ old.frames ++ Some row ∷ [] → new.sizes.items ≡ old.sizes.items ++ 1 ∷ [] → new.pages ≡ old.pages + 1
     → IsAcceptance duration T (page_event url header) new (answer.FrameMade number number o)
 open-accepted duration T old new url header p number o row h few at_number place room_pages is own frames sizes pages =
-    let room : length T ≢ 1000000 = omega (arith, h.count) in
+    let room : length T < 1000000 = omega (arith, h.count) in
     let below : length T < 1000000 = omega (arith, h.count) in
-    let few_pages : length (live_pages T) ≢ 64 = omega (arith, h.pages_are) in
+    let few_pages : length (live_pages T) < 64 = omega (arith, h.pages_are) in
     let n : number ≡ suc (length T) = omega (arith, h.count) in
     let at = place-is url p place in
     let made : IsPage (suc (length T)) p header row = subst (λ k. IsPage k p header row) n is in
@@ -209,8 +214,8 @@ open-accepted duration T old new url header p number o row h few at_number place
 -- ---- `embed`
 
 pub refused-unknown : (T : Told) (events : Events) (e : Event) (k : ℕ) → Keeps events T → length events.frames < 1000000 → is_frame T k ≡ false
-    → ((room : length T ≢ 1000000) → cause_of T 0 e ≡ Some cause.Unknown) → IsRefusal T e events cause.Unknown
-refused-unknown T events e k h few unmade why = record { cause = let room : length T ≢ 1000000 = omega (arith, h.count) in why room; kept = h }
+    → ((room : length T < 1000000) → cause_of T 0 e ≡ Some cause.Unknown) → IsRefusal T e events cause.Unknown
+refused-unknown T events e k h few unmade why = record { cause = let room : length T < 1000000 = omega (arith, h.count) in why room; kept = h }
 
 pub embed-refused-unknown : (T : Told) (events : Events) (parent : ℕ) (url : List ℕ) (header : Option (List ℕ)) → Keeps events T → length events.frames < 1000000 → frame_numbered events.frames parent ≡ None
     → IsRefusal T (child_event parent url header) events cause.Unknown
@@ -227,7 +232,7 @@ policy-refused-unknown T events frame name h few e =
 pub embed-refused-url : (T : Told) (events : Events) (parent : ℕ) (url : List ℕ) (header : Option (List ℕ)) (row : Frame) → Keeps events T → length events.frames < 1000000 → frame_numbered events.frames parent ≡ Some row
     → place_at url ≡ None → IsRefusal T (child_event parent url header) events cause.Url
 embed-refused-url T events parent url header row h few e place = record {
-  cause = let room : length T ≢ 1000000 = omega (arith, h.count) in embed-url T parent url header row room h.clock_is (kept-at _ _ _ T parent (Some row) h e) place;
+  cause = let room : length T < 1000000 = omega (arith, h.count) in embed-url T parent url header row room h.clock_is (kept-at _ _ _ T parent (Some row) h e) place;
   kept = h;
 }
 
@@ -236,7 +241,7 @@ pub embed-refused-depth : (T : Told) (events : Events) (parent : ℕ) (url : Lis
 embed-refused-depth T events parent url header row p h few e place deep =
     let w = kept-at _ _ _ T parent (Some row) h e in
     record {
-      cause = let room : length T ≢ 1000000 = omega (arith, h.count) in let full : row.depth ≡ 64 = omega (arith, w.shallow) in embed-depth T parent url header row p room h.clock_is w place full;
+      cause = let room : length T < 1000000 = omega (arith, h.count) in let full : row.depth ≡ 64 = omega (arith, w.shallow) in embed-depth T parent url header row p room h.clock_is w place full;
       kept = h;
     }
 
@@ -245,7 +250,7 @@ pub embed-refused-frames : (T : Told) (events : Events) (parent : ℕ) (url : Li
 embed-refused-frames T events parent url header row p h few e place shallow many =
     let w = kept-at _ _ _ T parent (Some row) h e in
     record {
-      cause = let room : length T ≢ 1000000 = omega (arith, h.count) in let deep : row.depth ≢ 64 = omega arith in
+      cause = let room : length T < 1000000 = omega (arith, h.count) in let deep : row.depth < 64 = omega arith in
           let full : length (live_frames T (row.page + 1)) ≡ 256 = omega (arith, h.size row.page, h.small row.page) in embed-frames T parent url header row p room h.clock_is w place deep full;
       kept = h;
     }
@@ -271,10 +276,10 @@ pub embed-accepted : (duration : ℕ) (T : Told) (old new : Events) (parent : �
 embed-accepted duration T old new parent url header row child p number o sizes h few e at_number place shallow room_page is own sized grown others frames new_sizes pages =
     let w = kept-at _ _ _ T parent (Some row) h e in
     let within = kept-within _ _ _ T parent row h e in
-    let room : length T ≢ 1000000 = omega (arith, h.count) in
+    let room : length T < 1000000 = omega (arith, h.count) in
     let below : length T < 1000000 = omega (arith, h.count) in
-    let deep : row.depth ≢ 64 = omega arith in
-    let few_frames : length (live_frames T (row.page + 1)) ≢ 256 = omega (arith, h.size row.page) in
+    let deep : row.depth < 64 = omega arith in
+    let few_frames : length (live_frames T (row.page + 1)) < 256 = omega (arith, h.size row.page) in
     let n : number ≡ suc (length T) = omega (arith, h.count) in
     let at = place-is url p place in
     let made : IsChild row (suc (length T)) p header child = subst (λ k. IsChild row k p header child) n is in
@@ -319,7 +324,7 @@ frame-policy T k name item = rw (is_same (suc (length T))) (frame-beyond T (suc 
 pub policy-refused-feature : (T : Told) (events : Events) (k : ℕ) (name : List ℕ) (row : Frame) → Keeps events T → length events.frames < 1000000 → frame_numbered events.frames k ≡ Some row
     → lacks_default name ≡ true → IsRefusal T (event.PolicyOf k name) events cause.Feature
 policy-refused-feature T events k name row h few e lacks = record {
-  cause = let room : length T ≢ 1000000 = omega (arith, h.count) in policy-feature T k name row room h.clock_is (kept-at _ _ _ T k (Some row) h e) lacks;
+  cause = let room : length T < 1000000 = omega (arith, h.count) in policy-feature T k name row room h.clock_is (kept-at _ _ _ T k (Some row) h e) lacks;
   kept = h;
 }
 
@@ -330,7 +335,7 @@ policy-accepted : (duration : ℕ) (T : Told) (old new : Events) (k : ℕ) (name
     → IsAcceptance duration T (event.PolicyOf k name) new (by_denial found)
 policy-accepted duration T old new k name row f found h few e named controlled first frames sizes pages =
     let w = kept-at _ _ _ T k (Some row) h e in
-    let room : length T ≢ 1000000 = omega (arith, h.count) in
+    let room : length T < 1000000 = omega (arith, h.count) in
     let below : length T < 1000000 = omega (arith, h.count) in
     record {
       cause = policy-none T k name row f room h.clock_is w named controlled;
