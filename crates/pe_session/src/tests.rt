@@ -433,6 +433,23 @@ fn copies(alloc: Global, line: &str, count: usize) -> Result<Vec<u8>, Fail> {
     Ok(script)
 }
 
+/// One line more than can be accepted.
+#[test]
+fn limit_of_events(rt: HostRuntime) -> Result<(), Fail> {
+    let alloc = rt.alloc();
+    let mut script = PAGE.as_bytes().to_vec(alloc)?;
+    script.extend_from_slice(&copies(alloc, "0 policy f1 camera\n", 1_000_000)?)?;
+    let mut source = PlainSource::new(script);
+    let mut sink = sink_of(alloc, 20_000_000)?;
+    let status = run_within(alloc, 5000, 1_073_741_824, &mut source, &mut sink);
+    assert!(rt;
+        sink.as_slice()
+            .ends_with(b"1000000 allowed\n1000001 refused limit-events\n")
+    );
+    assert_eq!(rt; status, Status::Refusals);
+    Ok(())
+}
+
 #[test]
 fn limits_of_pages_and_frames(rt: HostRuntime) -> Result<(), Fail> {
     let alloc = rt.alloc();
