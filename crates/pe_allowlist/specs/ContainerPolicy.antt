@@ -15,7 +15,7 @@ use Rattle.pe_allowlist.specs.declared.container.DeclaredOrigin.TheVariants.{Kno
 use Rattle.pe_allowlist.specs.AsciiWords.{pieces_at, ascii_words, lowercase}
 use Rattle.pe_allowlist.specs.Expressions.{expression_at}
 use Rattle.pe_allowlist.specs.Allowlists.{empty_list, is_opaque}
-use Rattle.pe_allowlist.specs.Lists.{Lists, is_policy_controlled}
+use Rattle.pe_allowlist.specs.Lists.{PolicyDirective, is_policy_controlled}
 
 -- a semicolon
 abbrev pub is_semicolon : ℕ → Bool
@@ -83,7 +83,7 @@ list_by_fullscreen fullscreen feature =
 
 -- the container policy, of the `allow` attribute's text, whether the `fullscreen` attribute stands,
 -- the embedder's origin and the declared origin; without the attribute the text is empty
-unfoldable pub container_policy : Option (List ℕ) → Bool → Origin → DeclaredOrigin → Lists
+unfoldable pub container_policy : Option (List ℕ) → Bool → Origin → DeclaredOrigin → PolicyDirective
 container_policy text fullscreen embedder declared feature =
     option_or
     (list_by_pieces embedder declared feature (pieces_at is_semicolon (unwrap_or text [])))

@@ -7,11 +7,11 @@ use Rattle.pe_features.specs.Features.{default_of, same_feature}
 use Rattle.pe_allowlist.specs.declared.allowlist.Allowlist.{Allowlist}
 
 -- the meaning of a map: the allowlist of each feature that it has
-abbrev pub Lists : Type 0
-Lists = Feature → Option Allowlist
+abbrev pub PolicyDirective : Type 0
+PolicyDirective = Feature → Option Allowlist
 
 -- the empty map
-abbrev pub no_lists : Lists
+abbrev pub no_lists : PolicyDirective
 no_lists feature = None
 
 -- the pair is of this feature
@@ -19,7 +19,7 @@ abbrev pub is_of_feature : Feature → Feature × Allowlist → Bool
 is_of_feature feature row = same_feature row.0 feature
 
 -- the meaning of a list of pairs: of those of one feature the first counts
-unfoldable pub lists_of : List (Feature × Allowlist) → Lists
+unfoldable pub lists_of : List (Feature × Allowlist) → PolicyDirective
 lists_of rows feature = option_map (λ (row : Feature × Allowlist). row.1) (find (is_of_feature feature) rows)
 
 -- no feature stands twice: of each pair's feature there is none further on

@@ -10,7 +10,7 @@ use Rattle.pe_allowlist.specs.declared.allowlist.Allowlist.{Allowlist}
 use Rattle.pe_allowlist.specs.Expressions.{expression_at}
 use Rattle.pe_allowlist.specs.Allowlists.{empty_list}
 use Rattle.pe_allowlist.specs.ContainerPolicy.{with_any, with_self, with_expression}
-use Rattle.pe_allowlist.specs.Lists.{Lists, is_policy_controlled}
+use Rattle.pe_allowlist.specs.Lists.{PolicyDirective, is_policy_controlled}
 use Rattle.pe_fields.specs.declared.value.Bare.{Bare}
 use Rattle.pe_fields.specs.declared.value.Bare.TheVariants.{Token, Text}
 use Rattle.pe_fields.specs.declared.value.Item.{Item}
@@ -53,5 +53,5 @@ list_of_members own feature members =
 
 -- the declared policy, of the header's field and the document's own origin; a field that is missing or
 -- no dictionary declares nothing
-unfoldable pub declared_policy : Option (List ℕ) → Origin → Lists
+unfoldable pub declared_policy : Option (List ℕ) → Origin → PolicyDirective
 declared_policy field own feature = option_and_then (list_of_members own feature) (option_and_then dictionary field)

@@ -2,16 +2,16 @@
 use Rattle.std.proofs.Common.{◌≡◌, ℕ, Bool, true, false, Option, None, refl}
 use Rattle.std.specs.Option.{option_or}
 use Rattle.pe_events.specs.declared.event.Event.{Event}
-use Rattle.pe_rules.specs.History.{Told, when}
+use Rattle.pe_rules.specs.History.{RepliedHistory, some_if}
 use Rattle.pe_rules.specs.Causes.{cause_of}
 use Rattle.pe_laws.specs.CausesLaws.{IsFaultless}
 
 -- nothing is the first of two only where it is both
-none-first : {A : Type 0} (b : Bool) (x : A) (later : Option A) → option_or (when b x) later ≡ None → (b ≡ false) × (later ≡ None)
+none-first : {A : Type 0} (b : Bool) (x : A) (later : Option A) → option_or (some_if b x) later ≡ None → (b ≡ false) × (later ≡ None)
 none-first true x later h = cc
 none-first false x later h = (refl, h)
 
-pub faultless : (T : Told) (now : ℕ) (e : Event) → cause_of T now e ≡ None → IsFaultless T now e
+pub faultless : (T : RepliedHistory) (now : ℕ) (e : Event) → cause_of T now e ≡ None → IsFaultless T now e
 unfolding cause_of
 faultless T now e h =
     let few = none-first _ _ _ h in

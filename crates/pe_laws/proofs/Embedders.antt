@@ -1,7 +1,7 @@
 -- The chain of a document, and of the documents of it.
 use Rattle.std.proofs.Common.{◌≡◌, ◌≢◌, ◌⊎◌, inl, inr, ℕ, suc, ◌≤◌, Bool, true, false, ◌||◌, ◌==◌, List, [], ◌∷◌, ◌++◌, length, Option, Some, None, is_some, unwrap_or, option_map, refl, sym, ◌∙◌, ap, arith, append_assoc, append-nil}
-use Rattle.pe_rules.specs.History.{Step, Told}
-use Rattle.pe_rules.specs.Making.{Making, making_by, making, along}
+use Rattle.pe_rules.specs.History.{Step, RepliedHistory}
+use Rattle.pe_rules.specs.Making.{Making, making_by, making, fold_embedders}
 use Rattle.pe_rules.specs.Embedders.{chain, first_or, top_document, page}
 use Rattle.pe_rules.specs.Activation.{is_one_of}
 use Rattle.pe_laws.specs.EmbeddersLaws.{IsAbove}
@@ -9,23 +9,23 @@ use Rattle.pe_laws.proofs.Numbers.{is_same, same-numbers}
 use Rattle.pe_laws.proofs.Older.{AllWithin, chain-older, frame-older, chain-within}
 use Rattle.pe_laws.proofs.Making.{making-other, making-newest, making-within, embedder-older, along-other, along-newest, along-unmade}
 
-pub chain-other : (s : Step) (T : Told) (d : ℕ) → d ≢ suc (length T) → chain (s ∷ T) d ≡ chain T d
+pub chain-other : (s : Step) (T : RepliedHistory) (d : ℕ) → d ≢ suc (length T) → chain (s ∷ T) d ≡ chain T d
 unfolding chain
 chain-other s T d ne = along-other _ _ s T d ne
 
 -- the chain of an embedder, where there is one
-abbrev pub chain_above : Told → Making → List ℕ
+abbrev pub chain_above : RepliedHistory → Making → List ℕ
 chain_above T m = unwrap_or (option_map (chain T) m.embedder) []
 
-pub chain-newest : (s : Step) (T : Told) (m : Making) → making_by s.event T ≡ Some m → chain (s ∷ T) (suc (length T)) ≡ chain_above T m ++ suc (length T) ∷ []
+pub chain-newest : (s : Step) (T : RepliedHistory) (m : Making) → making_by s.event T ≡ Some m → chain (s ∷ T) (suc (length T)) ≡ chain_above T m ++ suc (length T) ∷ []
 unfolding chain
 chain-newest s T m h = along-newest _ _ s T m h
 
-pub chain-none : (T : Told) (d : ℕ) → making T d ≡ None → chain T d ≡ []
+pub chain-none : (T : RepliedHistory) (d : ℕ) → making T d ≡ None → chain T d ≡ []
 unfolding chain
 chain-none T d h = along-unmade _ _ T d h
 
-above-older : (s : Step) (T : Told) (d : ℕ) (m : Making) → d ≤ suc (length T) → ((p : ℕ) → m.embedder ≡ Some p → suc p ≤ d) → chain_above (s ∷ T) m ≡ chain_above T m
+above-older : (s : Step) (T : RepliedHistory) (d : ℕ) (m : Making) → d ≤ suc (length T) → ((p : ℕ) → m.embedder ≡ Some p → suc p ≤ d) → chain_above (s ∷ T) m ≡ chain_above T m
 above-older s T d m h below = by_embedder m.embedder below
   where
     by_embedder : (o : Option ℕ) → ((p : ℕ) → o ≡ Some p → suc p ≤ d) → unwrap_or (option_map (chain (s ∷ T)) o) [] ≡ unwrap_or (option_map (chain T) o) []
@@ -33,7 +33,7 @@ above-older s T d m h below = by_embedder m.embedder below
     by_embedder (Some p) below = chain-older s T p (omega (arith, below p refl))
 
 -- the chain of a document is that of its embedder, and the document
-pub chain-is : (T : Told) (d : ℕ) (m : Making) → making T d ≡ Some m → chain T d ≡ chain_above T m ++ d ∷ []
+pub chain-is : (T : RepliedHistory) (d : ℕ) (m : Making) → making T d ≡ Some m → chain T d ≡ chain_above T m ++ d ∷ []
 chain-is [] d m h = absurd (none d m h)
   where
     none : (d : ℕ) (m : Making) → making [] d ≡ Some m → ⊥
@@ -70,7 +70,7 @@ one-at-end (y ∷ xs) x k h = by_test (y == k) (one-at-end xs x k) h
     by_test true rest e = inl refl
     by_test false rest e = rest e
 
-above-stays : (s : Step) (T : Told) (d p : ℕ) → d ≢ suc (length T) → IsAbove T d p → IsAbove (s ∷ T) d p
+above-stays : (s : Step) (T : RepliedHistory) (d p : ℕ) → d ≢ suc (length T) → IsAbove T d p → IsAbove (s ∷ T) d p
 above-stays s T d p ne w =
     let other : p ≢ suc (length T) = omega (arith, w.most) in
     record {
@@ -82,7 +82,7 @@ above-stays s T d p ne w =
     }
 
 -- of a document that the step makes
-above-new : (s : Step) (T : Told) (m : Making) (p : ℕ) → making_by s.event T ≡ Some m → ((q : ℕ) → is_one_of (chain T q) p ≡ true → IsAbove T q p)
+above-new : (s : Step) (T : RepliedHistory) (m : Making) (p : ℕ) → making_by s.event T ≡ Some m → ((q : ℕ) → is_one_of (chain T q) p ≡ true → IsAbove T q p)
     → is_one_of (chain (s ∷ T) (suc (length T))) p ≡ true → IsAbove (s ∷ T) (suc (length T)) p
 above-new s T m p made older h = by_place (one-at-end (chain_above T m) (suc (length T)) p (ap (λ xs. is_one_of xs p) (sym (chain-newest s T m made)) ∙ h))
   where
@@ -122,10 +122,10 @@ above-new s T m p made older h = by_place (one-at-end (chain_above T m) (suc (le
     by_place (inr is) = itself is
 
 no-chain : (d p : ℕ) → is_one_of (chain [] d) p ≡ true → ⊥
-unfolding chain along
+unfolding chain fold_embedders
 no-chain d p h = cc
 
-pub above : (T : Told) (d p : ℕ) → is_one_of (chain T d) p ≡ true → IsAbove T d p
+pub above : (T : RepliedHistory) (d p : ℕ) → is_one_of (chain T d) p ≡ true → IsAbove T d p
 above [] d p h = absurd (no-chain d p h)
 above (s ∷ T) d p h = by_test (d == suc (length T)) refl (λ q. above T q p)
   where
@@ -145,7 +145,7 @@ above (s ∷ T) d p h = by_test (d == suc (length T)) refl (λ q. above T q p)
 
 -- ---- the top document and the page
 
-pub top-other : (s : Step) (T : Told) (d : ℕ) → d ≢ suc (length T) → top_document (s ∷ T) d ≡ top_document T d
+pub top-other : (s : Step) (T : RepliedHistory) (d : ℕ) → d ≢ suc (length T) → top_document (s ∷ T) d ≡ top_document T d
 unfolding top_document
 top-other s T d ne = rw (chain-other s T d ne) refl
 
@@ -154,17 +154,17 @@ pub first-within : (n d : ℕ) (ds : List ℕ) → d ≤ n → AllWithin n ds �
 first-within n d [] h all = h
 first-within n d (x ∷ ds) h all = all.0
 
-pub top-within : (T : Told) (d : ℕ) → d ≤ length T → top_document T d ≤ length T
+pub top-within : (T : RepliedHistory) (d : ℕ) → d ≤ length T → top_document T d ≤ length T
 unfolding top_document
 top-within T d h = first-within (length T) d (chain T d) h (chain-within T d)
 
-pub page-older : (s : Step) (T : Told) (d : ℕ) → d ≤ length T → page (s ∷ T) d ≡ page T d
+pub page-older : (s : Step) (T : RepliedHistory) (d : ℕ) → d ≤ length T → page (s ∷ T) d ≡ page T d
 unfolding page
 page-older s T d h =
     let ne : d ≢ suc (length T) = omega arith in
     rw (top-other s T d ne) (frame-older s T (top_document T d) (top-within T d h))
 
-pub top-top : (T : Told) (d : ℕ) → top_document T (top_document T d) ≡ top_document T d
+pub top-top : (T : RepliedHistory) (d : ℕ) → top_document T (top_document T d) ≡ top_document T d
 unfolding top_document
 top-top T d = by_chain (chain T d) refl
   where

@@ -7,12 +7,12 @@ use Rattle.pe_events.specs.declared.cause.Cause.{Cause}
 use Rattle.pe_events.specs.declared.event.Event.{Event}
 use Rattle.pe_events.specs.declared.event.Event.TheVariants as event
 use Rattle.pe_events.specs.Timed.{Timed}
-use Rattle.pe_rules.specs.History.{Step, Told, History, when, newest}
+use Rattle.pe_rules.specs.History.{Step, RepliedHistory, History, some_if, newest_answer}
 use Rattle.pe_rules.specs.Numbering.{makes_frame, document_frame, is_frame, last_document}
 use Rattle.pe_rules.specs.Making.{Making, making_by, making, frame_of}
 use Rattle.pe_rules.specs.Current.{ends, frames_above, is_current, document_in, is_live}
 use Rattle.pe_rules.specs.Causes.{names_closed, cause_of}
-use Rattle.pe_rules.specs.Replies.{told, accepts_in, accepts, is_regular}
+use Rattle.pe_rules.specs.Replies.{replied, accepts_in, accepts, is_regular}
 use Rattle.pe_laws.specs.CurrentLaws.{left_in}
 use Rattle.pe_laws.proofs.Numbers.{is_same, same-numbers}
 use Rattle.pe_laws.proofs.Lists.{both, or-true}
@@ -24,14 +24,14 @@ use Rattle.pe_laws.proofs.Steps.{regular-step}
 use Rattle.pe_laws.proofs.Causes.{faultless}
 
 -- the frame that an event embeds in, navigates or closes is live
-abbrev pub NamesLive : Event → Told → Type 0
+abbrev pub NamesLive : Event → RepliedHistory → Type 0
 NamesLive (event.Embed parent src place allow sandbox fullscreen srcdoc header) T = is_live T parent ≡ true
 NamesLive (event.Navigate frame url header) T = is_live T frame ≡ true
 NamesLive (event.Close frame) T = is_live T frame ≡ true
 NamesLive e T = Unit {0}
 
 -- the frames that the events name are live after the steps before them
-abbrev pub AreNamedLive : Told → Type 0
+abbrev pub AreNamedLive : RepliedHistory → Type 0
 AreNamedLive [] = Unit {0}
 AreNamedLive (s ∷ T) = NamesLive s.event T × AreNamedLive T
 
@@ -39,7 +39,7 @@ opened : (b c : Bool) → ((not b || false) || c) ≡ false → b ≡ true
 opened true c h = refl
 opened false c h = cc
 
-names-live : (T : Told) (e : Event) → names_closed T e ≡ false → NamesLive e T
+names-live : (T : RepliedHistory) (e : Event) → names_closed T e ≡ false → NamesLive e T
 unfolding names_closed
 names-live T (event.Embed parent src place allow sandbox fullscreen srcdoc header) h = opened (is_live T parent) _ h
 names-live T (event.Navigate frame url header) h = opened (is_live T frame) _ h
@@ -50,14 +50,14 @@ no-cause : (o : Option Cause) → is_none o ≡ true → o ≡ None
 no-cause None h = refl
 no-cause (Some c) h = cc
 
-accepted-names : (duration : ℕ) (H : History) (e : Timed) → accepts duration H e ≡ true → NamesLive e.event (told duration H)
+accepted-names : (duration : ℕ) (H : History) (e : Timed) → accepts duration H e ≡ true → NamesLive e.event (replied duration H)
 unfolding accepts accepts_in
 accepted-names duration H e h =
-    let w = faultless (told duration H) e.time e.event (no-cause (cause_of (told duration H) e.time e.event) h) in
-    names-live (told duration H) e.event w.opened
+    let w = faultless (replied duration H) e.time e.event (no-cause (cause_of (replied duration H) e.time e.event) h) in
+    names-live (replied duration H) e.event w.opened
 
-pub regular-names : (duration : ℕ) (H : History) → is_regular duration H ≡ true → AreNamedLive (told duration H)
-unfolding told
+pub regular-names : (duration : ℕ) (H : History) → is_regular duration H ≡ true → AreNamedLive (replied duration H)
+unfolding replied
 regular-names duration [] h = tt
 regular-names duration (e ∷ H) h =
     let w = regular-step duration e H h in
@@ -69,14 +69,14 @@ some-of : {A : Type 0} (o : Option A) → is_some o ≡ true → (x : A) × (o �
 some-of None h = cc
 some-of (Some x) h = (x, refl)
 
-pub live-last : (T : Told) (f : ℕ) → is_live T f ≡ true → (d : ℕ) × (last_document T f ≡ Some d)
+pub live-last : (T : RepliedHistory) (f : ℕ) → is_live T f ≡ true → (d : ℕ) × (last_document T f ≡ Some d)
 unfolding is_live
 live-last T f h =
     let here : (d : ℕ) × (document_in T f ≡ Some d) = some-of (document_in T f) h in
     (here.0, (in-frame T f here.0 here.1).0)
 
-framed-step : (s : Step) (T : Told) (f d : ℕ) → NamesLive s.event T → ((g x : ℕ) → last_document T g ≡ Some x → is_frame T g ≡ true)
-    → option_or (option_and_then (λ g. when (g == f) (suc (length T))) (document_frame s.event (suc (length T)))) (last_document T f) ≡ Some d
+framed-step : (s : Step) (T : RepliedHistory) (f d : ℕ) → NamesLive s.event T → ((g x : ℕ) → last_document T g ≡ Some x → is_frame T g ≡ true)
+    → option_or (option_and_then (λ g. some_if (g == f) (suc (length T))) (document_frame s.event (suc (length T)))) (last_document T f) ≡ Some d
     → is_frame (s ∷ T) f ≡ true
 framed-step s T f d live older h = by_event s.event refl live h
   where
@@ -87,31 +87,31 @@ framed-step s T f d live older h = by_event s.event refl live h
         let ne : g ≢ suc (length T) = omega (arith, within.1) in
         frame-other s T g ne ∙ was
 
-    own : (b : Bool) → (suc (length T) == f) ≡ b → makes_frame s.event ≡ true → option_or (when b (suc (length T))) (last_document T f) ≡ Some d → is_frame (s ∷ T) f ≡ true
+    own : (b : Bool) → (suc (length T) == f) ≡ b → makes_frame s.event ≡ true → option_or (some_if b (suc (length T))) (last_document T f) ≡ Some d → is_frame (s ∷ T) f ≡ true
     own true is makes e = ap (is_frame (s ∷ T)) (sym (same-numbers (suc (length T)) f is)) ∙ frame-newest s T ∙ makes
     own false is makes e = up f d e
 
-    again : (g : ℕ) → is_live T g ≡ true → (b : Bool) → (g == f) ≡ b → option_or (when b (suc (length T))) (last_document T f) ≡ Some d → is_frame (s ∷ T) f ≡ true
+    again : (g : ℕ) → is_live T g ≡ true → (b : Bool) → (g == f) ≡ b → option_or (some_if b (suc (length T))) (last_document T f) ≡ Some d → is_frame (s ∷ T) f ≡ true
     again g live true is e = let last = live-last T g live in ap (is_frame (s ∷ T)) (sym (same-numbers g f is)) ∙ up g last.0 last.1
     again g live false is e = up f d e
 
     by_event : (e : Event) → s.event ≡ e → NamesLive e T
-        → option_or (option_and_then (λ g. when (g == f) (suc (length T))) (document_frame e (suc (length T)))) (last_document T f) ≡ Some d
+        → option_or (option_and_then (λ g. some_if (g == f) (suc (length T))) (document_frame e (suc (length T)))) (last_document T f) ≡ Some d
         → is_frame (s ∷ T) f ≡ true
     by_event (event.OpenPage url header) is live h = own (suc (length T) == f) refl (ap makes_frame is) h
     by_event (event.Embed parent src place allow sandbox fullscreen srcdoc header) is live h = own (suc (length T) == f) refl (ap makes_frame is) h
     by_event (event.Navigate g url header) is live h = again g live (g == f) refl h
     by_event e is live h = up f d h
 
-pub framed : (T : Told) → AreNamedLive T → (f d : ℕ) → last_document T f ≡ Some d → is_frame T f ≡ true
-unfolding last_document newest
+pub framed : (T : RepliedHistory) → AreNamedLive T → (f d : ℕ) → last_document T f ≡ Some d → is_frame T f ≡ true
+unfolding last_document newest_answer
 framed [] live f d h = cc
 framed (s ∷ T) live f d h = framed-step s T f d live.0 (framed T live.1) h
 
-pub live-made : (duration : ℕ) (H : History) (f : ℕ) → is_regular duration H ≡ true → is_live (told duration H) f ≡ true → (1 ≤ f) × (f ≤ length (told duration H))
+pub live-made : (duration : ℕ) (H : History) (f : ℕ) → is_regular duration H ≡ true → is_live (replied duration H) f ≡ true → (1 ≤ f) × (f ≤ length (replied duration H))
 live-made duration H f regular live =
-    let last = live-last (told duration H) f live in
-    frame-within (told duration H) f (framed (told duration H) (regular-names duration H regular) f last.0 last.1)
+    let last = live-last (replied duration H) f live in
+    frame-within (replied duration H) f (framed (replied duration H) (regular-names duration H regular) f last.0 last.1)
 
 -- ---- a current document is the one of its frame
 
@@ -120,17 +120,17 @@ one-at-end [] x = rw (is_same x) refl
 one-at-end (y ∷ xs) x = rw (one-at-end xs x) (or-true (y == x))
 
 -- the frame of a document is one of those of its chain
-own-frame : (T : Told) (d : ℕ) (m : Making) → making T d ≡ Some m → list_any (λ f. f == frame_of T d) (frames_above T d) ≡ true
+own-frame : (T : RepliedHistory) (d : ℕ) (m : Making) → making T d ≡ Some m → list_any (λ f. f == frame_of T d) (frames_above T d) ≡ true
 unfolding frames_above
 own-frame T d m h = rw (chain-is T d m h, map-append (frame_of T) (chain_above T m) (d ∷ [])) (one-at-end (map (frame_of T) (chain_above T m)) (frame_of T d))
 
-shown-new : (s : Step) (T : Told) → is_current (s ∷ T) (suc (length T)) ≡ true → document_in (s ∷ T) (frame_of (s ∷ T) (suc (length T))) ≡ Some (suc (length T))
+shown-new : (s : Step) (T : RepliedHistory) → is_current (s ∷ T) (suc (length T)) ≡ true → document_in (s ∷ T) (frame_of (s ∷ T) (suc (length T))) ≡ Some (suc (length T))
 shown-new s T now =
     let made : (m : Making) × (making_by s.event T ≡ Some m) = some-of (making_by s.event T) (sym (current-newest s T) ∙ now) in
     let place : document_frame s.event (suc (length T)) ≡ Some made.0.frame = made-in-frame s T made.0 made.1 in
     ap (document_in (s ∷ T)) (frame-of-newest s T made.0.frame place) ∙ document-in-made s T made.0.frame place
 
-shown-older : (s : Step) (T : Told) (d : ℕ) → NamesLive s.event T → AreNamedLive T → d ≤ length T → (is_current T d && not (ends (frames_above T d) s.event)) ≡ true
+shown-older : (s : Step) (T : RepliedHistory) (d : ℕ) → NamesLive s.event T → AreNamedLive T → d ≤ length T → (is_current T d && not (ends (frames_above T d) s.event)) ≡ true
     → document_in T (frame_of T d) ≡ Some d → document_in (s ∷ T) (frame_of T d) ≡ Some d
 shown-older s T d live named h now here = by_frame (document_frame s.event (suc (length T))) refl
   where
@@ -138,7 +138,7 @@ shown-older s T d live named h now here = by_frame (document_frame s.event (suc 
     stays = (both (is_current T d) (not (ends (frames_above T d) s.event)) now).1
 
     left : left_in s T (document_in T (frame_of T d)) ≡ Some d
-    left = ap (left_in s T) here ∙ ap (λ b. when b d) stays
+    left = ap (left_in s T) here ∙ ap (λ b. some_if b d) stays
 
     last : last_document T (frame_of T d) ≡ Some d
     last = (in-frame T (frame_of T d) d here).0
@@ -170,7 +170,7 @@ shown-older s T d live named h now here = by_frame (document_frame s.event (suc 
     by_frame None is = document-in-other s T (frame_of T d) is ∙ left
     by_frame (Some g) is = by_place g is (g == frame_of T d) refl
 
-shown-step : (s : Step) (T : Told) (d : ℕ) → NamesLive s.event T → AreNamedLive T → (is_current T d ≡ true → document_in T (frame_of T d) ≡ Some d)
+shown-step : (s : Step) (T : RepliedHistory) (d : ℕ) → NamesLive s.event T → AreNamedLive T → (is_current T d ≡ true → document_in T (frame_of T d) ≡ Some d)
     → is_current (s ∷ T) d ≡ true → document_in (s ∷ T) (frame_of (s ∷ T) d) ≡ Some d
 shown-step s T d live named older now = by_test (d == suc (length T)) refl
   where
@@ -186,10 +186,10 @@ shown-step s T d live named older now = by_test (d == suc (length T)) refl
         ap (document_in (s ∷ T)) (frame-of-other s T d ne)
         ∙ shown-older s T d live named h both_now (older (both (is_current T d) (not (ends (frames_above T d) s.event)) both_now).0)
 
-pub shown : (T : Told) → AreNamedLive T → (d : ℕ) → is_current T d ≡ true → document_in T (frame_of T d) ≡ Some d
+pub shown : (T : RepliedHistory) → AreNamedLive T → (d : ℕ) → is_current T d ≡ true → document_in T (frame_of T d) ≡ Some d
 shown [] named d now = let within = current-within [] d now in absurd (omega (arith, within.0, within.1))
 shown (s ∷ T) named d now = shown-step s T d named.0 named.1 (shown T named.1 d) now
 
-pub shown-in-frame : (duration : ℕ) (H : History) (d : ℕ) → is_regular duration H ≡ true → is_current (told duration H) d ≡ true
-    → document_in (told duration H) (frame_of (told duration H) d) ≡ Some d
-shown-in-frame duration H d regular now = shown (told duration H) (regular-names duration H regular) d now
+pub shown-in-frame : (duration : ℕ) (H : History) (d : ℕ) → is_regular duration H ≡ true → is_current (replied duration H) d ≡ true
+    → document_in (replied duration H) (frame_of (replied duration H) d) ≡ Some d
+shown-in-frame duration H d regular now = shown (replied duration H) (regular-names duration H regular) d now

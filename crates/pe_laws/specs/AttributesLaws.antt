@@ -1,17 +1,17 @@
 -- Laws of the attributes of frames: what one step gives, and what it leaves.
 use Rattle.std.specs.Prelude.{◌≡◌, ℕ, ◌∷◌, length, None, unwrap_or}
 use Rattle.pe_events.specs.declared.event.AttrName.{AttrName}
-use Rattle.pe_rules.specs.History.{Step, Told}
+use Rattle.pe_rules.specs.History.{Step, RepliedHistory}
 use Rattle.pe_rules.specs.Attributes.{attribute_by, attribute, attributes_of}
 
 -- what holds of the attributes of frames
 pub record AttributesLaws : Type 0 where
   -- the attribute that a step gives, else the one before
-  pub attribute_step : (s : Step) (T : Told) (f : ℕ) (name : AttrName)
+  pub attribute_step : (s : Step) (T : RepliedHistory) (f : ℕ) (name : AttrName)
       → attribute (s ∷ T) f name ≡ unwrap_or (attribute_by s.event (length (s ∷ T)) f name) (attribute T f name)
   -- a step that gives none leaves it
-  pub attribute_stays : (s : Step) (T : Told) (f : ℕ) (name : AttrName)
+  pub attribute_stays : (s : Step) (T : RepliedHistory) (f : ℕ) (name : AttrName)
       → attribute_by s.event (length (s ∷ T)) f name ≡ None → attribute (s ∷ T) f name ≡ attribute T f name
   -- a step that gives a frame none leaves all of the frame's
-  pub attributes_stay : (s : Step) (T : Told) (f : ℕ)
+  pub attributes_stay : (s : Step) (T : RepliedHistory) (f : ℕ)
       → ((name : AttrName) → attribute_by s.event (length (s ∷ T)) f name ≡ None) → attributes_of (s ∷ T) f ≡ attributes_of T f

@@ -2,11 +2,11 @@
 use Rattle.std.specs.Prelude.{◌≡◌, ℕ, false, nat_le, nat_lt, length, None}
 use Rattle.pe_base.specs.declared.limits.TheConstants.{EVENT_LIMIT}
 use Rattle.pe_events.specs.declared.event.Event.{Event}
-use Rattle.pe_rules.specs.History.{Told, clock}
+use Rattle.pe_rules.specs.History.{RepliedHistory, clock}
 use Rattle.pe_rules.specs.Causes.{cause_of, names_unknown, names_settled, names_closed, names_not_shown, has_bad_url, has_bad_feature, has_bad_call, has_bad_capability, names_other_page, exceeds_pages, exceeds_depth, exceeds_frames, exceeds_statuses, exceeds_pending, exceeds_store}
 
 -- no cause applies to the event at this time
-pub record IsFaultless (T : Told) (now : ℕ) (e : Event) : Type 0 where
+pub record IsFaultless (T : RepliedHistory) (now : ℕ) (e : Event) : Type 0 where
   pub few : nat_le EVENT_LIMIT (length T) ≡ false
   pub in_time : nat_lt now (clock T) ≡ false
   pub known : names_unknown T e ≡ false
@@ -27,4 +27,4 @@ pub record IsFaultless (T : Told) (now : ℕ) (e : Event) : Type 0 where
 
 -- what holds of causes
 pub record CausesLaws : Type 0 where
-  pub accepted : (T : Told) (now : ℕ) (e : Event) → cause_of T now e ≡ None → IsFaultless T now e
+  pub accepted : (T : RepliedHistory) (now : ℕ) (e : Event) → cause_of T now e ≡ None → IsFaultless T now e

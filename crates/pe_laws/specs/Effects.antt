@@ -6,11 +6,11 @@ use Rattle.pe_events.specs.declared.event.Event.{Event}
 use Rattle.pe_events.specs.declared.event.Event.TheVariants as event
 use Rattle.pe_events.specs.declared.event.Outcome.{Outcome}
 use Rattle.pe_events.specs.declared.event.Outcome.TheVariants as outcome
-use Rattle.pe_rules.specs.History.{Item}
+use Rattle.pe_rules.specs.History.{StepAnswer}
 use Rattle.pe_rules.specs.Numbering.{makes_message}
 use Rattle.pe_rules.specs.Activation.{is_by_transient, is_consuming_call}
 use Rattle.pe_rules.specs.HistoryActivation.{is_allowance}
-use Rattle.pe_rules.specs.Prompts.{prompt_told}
+use Rattle.pe_rules.specs.Prompts.{prompt_replied}
 use Rattle.pe_rules.specs.Delegation.{is_by_delegated, is_delivered}
 
 -- which of these a step may do
@@ -61,7 +61,7 @@ is_dismissal outcome.Dismiss = true
 is_dismissal other = false
 
 -- what a step of this event, of which this was told, may do
-abbrev pub effects : Event → Item → Effects
+abbrev pub effects : Event → StepAnswer → Effects
 effects (event.OpenPage url header) item = record no_effects { makes_frame = true; makes_document = true }
 effects (event.Embed parent src place allow sandbox fullscreen srcdoc header) item = record no_effects { makes_frame = true; makes_document = true; gives_attribute = true }
 effects (event.Navigate frame url header) item = record no_effects { makes_document = true; ends_documents = true }
@@ -75,7 +75,7 @@ effects (event.Features frame) item = no_effects
 effects (event.UseCall frame call) item = record no_effects { consumes = is_by_transient item && is_consuming_call call; spends = is_by_delegated item }
 effects (event.Query frame feature) item = record no_effects { makes_status = true }
 effects (event.DropStatus status) item = record no_effects { drops_status = true }
-effects (event.Request frame feature) item = record no_effects { requests = is_some (prompt_told item) }
+effects (event.Request frame feature) item = record no_effects { requests = is_some (prompt_replied item) }
 effects (event.Answered prompt out given) item = record no_effects { settles_prompt = true; sets = not (is_dismissal out); dismisses = is_dismissal out }
 effects (event.SetState feature first second state span) item = record no_effects { sets = true }
 effects (event.Post sender target named capability) item = record no_effects { posts = makes_message item; consumes = makes_message item }

@@ -6,7 +6,7 @@ use Rattle.std.specs.Str.Lines.{strip_carriage_return}
 use Rattle.std.proofs.lemmas.List.{length-take, length-drop, length-replicate, take_at, drop-drop, drop_all, take_all}
 use Rattle.std.proofs.lemmas.List.Elements.{All-replicate, All-append, All-nil}
 use Rattle.std.proofs.lemmas.Bool.Decides.{nat_tests}
-use Rattle.pe_lines.specs.Lines.{is_line_feed, HasNoLineFeed, within_limit, lines, ended_lines, told_lines, told_ended_lines}
+use Rattle.pe_lines.specs.Lines.{is_line_feed, HasNoLineFeed, within_limit, lines, ended_lines, lines_or_too_long, ended_lines_or_too_long}
 use Rattle.pe_base.specs.declared.limits.TheConstants.{LINE_LIMIT}
 use Rattle.pe_lines.specs.Rests.{Rest, filler, front_of}
 use Rattle.pe_lines.specs.declared.cutter.Found.TheVariants.{Overlong, Line}
@@ -64,7 +64,7 @@ same_at a b more (Some n) e na nb la lb =
 
 -- two fronts of a line that is too long
 same_long : (a b : List ℕ) → HasNoLineFeed a → HasNoLineFeed b → 16385 < length a → 16385 < length b → length b ≤ length a → SameLines a b
-unfolding told_lines told_ended_lines
+unfolding lines_or_too_long ended_lines_or_too_long
 same_long a b na nb la lb le = record {
   all = λ more. (same_at a b more (position is_line_feed more) refl na nb la lb).0;
   ended = λ more. (same_at a b more (position is_line_feed more) refl na nb la lb).1;
@@ -142,8 +142,8 @@ nothing_left held bytes at long view is past = sym view ∙ ap (λ b. front_of b
 
 pub same_nothing : (old new : List ℕ) → old ≡ [] → new ≡ [] → SameLines old new
 same_nothing old new a b = record {
-  all = λ more. ap (λ l. told_lines (l ++ more)) (a ∙ sym b);
-  ended = λ more. ap (λ l. told_ended_lines (l ++ more)) (a ∙ sym b);
+  all = λ more. ap (λ l. lines_or_too_long (l ++ more)) (a ∙ sym b);
+  ended = λ more. ap (λ l. ended_lines_or_too_long (l ++ more)) (a ∙ sym b);
   fewer = omega (arith, ap length a, ap length b);
 }
 

@@ -8,7 +8,7 @@ use Rattle.std.proofs.lemmas.List.Sums.{fails_before_first, passes_at_first, spl
 use Rattle.std.proofs.lemmas.List.Splits.{slice_split_at, slice_split_none, length-slice_split}
 use Rattle.std.proofs.lemmas.Bool.Decides.{nat_tests}
 use Rattle.std.proofs.lemmas.Bool.{eqb-true}
-use Rattle.pe_lines.specs.Lines.{is_line_feed, HasNoLineFeed, within_limit, parts, but_last, counted, lines, ended_lines, told_lines, told_ended_lines}
+use Rattle.pe_lines.specs.Lines.{is_line_feed, HasNoLineFeed, within_limit, parts, but_last, counted, lines, ended_lines, lines_or_too_long, ended_lines_or_too_long}
 use Rattle.pe_lines.specs.Cutting.{TakesLine, TakesLast}
 
 -- ---- the first line feed
@@ -110,13 +110,13 @@ pub lines-last : (part : List ℕ) → HasNoLineFeed part → 0 < length part �
 unfolding lines
 lines-last part h some = ap (λ all. map strip_carriage_return (counted all)) (slice_split_none is_line_feed part h) ∙ ap (λ all. map strip_carriage_return all) (counted-one part some)
 
-pub told-none : (part : List ℕ) → HasNoLineFeed part → told_ended_lines part ≡ []
-unfolding told_ended_lines
+pub told-none : (part : List ℕ) → HasNoLineFeed part → ended_lines_or_too_long part ≡ []
+unfolding ended_lines_or_too_long
 told-none part h = ap (map within_limit) (ended-none part h)
 
 -- a line that a line feed ended is taken off
 pub takes_first : (old new part : List ℕ) (line : Option (List ℕ)) → old ≡ part ++ 10 ∷ new → HasNoLineFeed part → line ≡ within_limit (strip_carriage_return part) → TakesLine old new line
-unfolding told_lines told_ended_lines
+unfolding lines_or_too_long ended_lines_or_too_long
 takes_first old new part line was first is = record {
   all = λ more. ap (λ l. map within_limit (lines (l ++ more))) was ∙ ap (λ l. map within_limit (lines l)) (append_assoc part (10 ∷ new) more)
       ∙ ap (map within_limit) (lines-first part (new ++ more) first) ∙ ap (λ l. l ∷ map within_limit (lines (new ++ more))) (sym is);
@@ -127,7 +127,7 @@ takes_first old new part line was first is = record {
 
 -- the last line is taken off
 pub takes_last : (old new : List ℕ) (line : Option (List ℕ)) → HasNoLineFeed old → 0 < length old → line ≡ within_limit (strip_carriage_return old) → new ≡ [] → TakesLast old new line
-unfolding told_lines
+unfolding lines_or_too_long
 takes_last old new line first some is nothing = record {
   all = ap (map within_limit) (lines-last old first some) ∙ ap (λ l. l ∷ []) (sym is);
   ended = told-none old first;
@@ -161,8 +161,8 @@ counted-grows (p ∷ []) = (counted (p ∷ []), refl)
 counted-grows (p ∷ q ∷ ps) = let (rest, e) = counted-grows (q ∷ ps) in (rest, ap (λ ls. p ∷ ls) e)
 
 -- the lines that are ended stay, whatever comes behind
-pub ended-grows : (xs ys : List ℕ) → (rest : List (Option (List ℕ))) × (told_ended_lines (xs ++ ys) ≡ told_ended_lines xs ++ rest)
-unfolding ended_lines told_ended_lines
+pub ended-grows : (xs ys : List ℕ) → (rest : List (Option (List ℕ))) × (ended_lines_or_too_long (xs ++ ys) ≡ ended_lines_or_too_long xs ++ rest)
+unfolding ended_lines ended_lines_or_too_long
 ended-grows xs ys =
     let (rest, e) = but_last-grows xs ys in (
       map within_limit (map strip_carriage_return rest),
@@ -170,8 +170,8 @@ ended-grows xs ys =
           ∙ map-append within_limit (map strip_carriage_return (but_last (parts xs))) (map strip_carriage_return rest),
     )
 
-pub lines-grows : (xs : List ℕ) → (rest : List (Option (List ℕ))) × (told_lines xs ≡ told_ended_lines xs ++ rest)
-unfolding lines ended_lines told_lines told_ended_lines
+pub lines-grows : (xs : List ℕ) → (rest : List (Option (List ℕ))) × (lines_or_too_long xs ≡ ended_lines_or_too_long xs ++ rest)
+unfolding lines ended_lines lines_or_too_long ended_lines_or_too_long
 lines-grows xs =
     let (rest, e) = counted-grows (parts xs) in (
       map within_limit (map strip_carriage_return rest),
@@ -179,6 +179,6 @@ lines-grows xs =
           ∙ map-append within_limit (map strip_carriage_return (but_last (parts xs))) (map strip_carriage_return rest),
     )
 
-pub told-nothing : (bytes : List ℕ) → bytes ≡ [] → told_ended_lines bytes ≡ []
-unfolding ended_lines told_ended_lines
+pub told-nothing : (bytes : List ℕ) → bytes ≡ [] → ended_lines_or_too_long bytes ≡ []
+unfolding ended_lines ended_lines_or_too_long
 told-nothing bytes e = ap (λ l. map within_limit (ended_lines l)) e

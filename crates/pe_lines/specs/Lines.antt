@@ -43,9 +43,9 @@ abbrev pub within_limit : List ℕ → Option (List ℕ)
 within_limit line = if nat_lt LINE_LIMIT (length line) then None else Some line
 
 -- what is told of all lines
-unfoldable pub told_lines : List ℕ → List (Option (List ℕ))
-told_lines bytes = map within_limit (lines bytes)
+unfoldable pub lines_or_too_long : List ℕ → List (Option (List ℕ))
+lines_or_too_long bytes = map within_limit (lines bytes)
 
 -- what is told of the lines that a line feed ended
-unfoldable pub told_ended_lines : List ℕ → List (Option (List ℕ))
-told_ended_lines bytes = map within_limit (ended_lines bytes)
+unfoldable pub ended_lines_or_too_long : List ℕ → List (Option (List ℕ))
+ended_lines_or_too_long bytes = map within_limit (ended_lines bytes)

@@ -2,7 +2,7 @@
 //! definitions, and does nothing.
 ghost use Rattle.std.specs.Prelude.{◌≡◌, ℕ, ◌↔◌, List, [], ◌∷◌, ◌++◌, Option, Some, false};
 ghost use Rattle.pe_lines.specs.declared.word.Word.{Word};
-ghost use Rattle.pe_lines.specs.Lines.{told_lines, told_ended_lines};
+ghost use Rattle.pe_lines.specs.Lines.{lines_or_too_long, ended_lines_or_too_long};
 ghost use Rattle.pe_lines.specs.Rests.{Rest};
 ghost use Rattle.pe_lines.specs.Cutting.{Cuts, TakesLine, TakesLast, TakesNext};
 ghost use Rattle.pe_lines.specs.Words.{words_of};
@@ -16,9 +16,9 @@ pub fn words_are_by_grammar()
 /// Lines that a line feed ended stay, whatever comes behind them.
 pub fn ended_lines_stay()
     ensures ended { (bytes : List ℕ) → (more : List ℕ) →
-        ((added : List (Option (List ℕ))) × (told_ended_lines (bytes ++ more) ≡ told_ended_lines bytes ++ added)) }
+        ((added : List (Option (List ℕ))) × (ended_lines_or_too_long (bytes ++ more) ≡ ended_lines_or_too_long bytes ++ added)) }
     ensures all { (bytes : List ℕ) →
-        ((added : List (Option (List ℕ))) × (told_lines bytes ≡ told_ended_lines bytes ++ added)) }
+        ((added : List (Option (List ℕ))) × (lines_or_too_long bytes ≡ ended_lines_or_too_long bytes ++ added)) }
 {}
 
 /// How the lines that were taken off an input go on.
@@ -34,13 +34,13 @@ pub fn cuts_go_on()
     ensures before_end { (old : Rest) → (new : Rest) → (line : Option (List ℕ)) →
         old.finished ≡ false → TakesNext old new line → TakesLine old.bytes new.bytes line }
     ensures at_end { (old : Rest) → (new : Rest) → (line : Option (List ℕ)) →
-        told_ended_lines old.bytes ≡ [] → TakesNext old new line → TakesLast old.bytes new.bytes line }
+        ended_lines_or_too_long old.bytes ≡ [] → TakesNext old new line → TakesLast old.bytes new.bytes line }
 
     // No whole line is left, the last line was taken off, and nothing is left.
     ensures ended { (bytes : List ℕ) → (done : List (Option (List ℕ))) → (rest : List ℕ) →
-        Cuts bytes done rest → told_ended_lines rest ≡ [] → told_ended_lines bytes ≡ done }
+        Cuts bytes done rest → ended_lines_or_too_long rest ≡ [] → ended_lines_or_too_long bytes ≡ done }
     ensures last { (bytes : List ℕ) → (done : List (Option (List ℕ))) → (old : List ℕ) → (new : List ℕ) → (line : Option (List ℕ)) →
-        Cuts bytes done old → TakesLast old new line → told_lines bytes ≡ done ++ line ∷ [] }
+        Cuts bytes done old → TakesLast old new line → lines_or_too_long bytes ≡ done ++ line ∷ [] }
     ensures all { (bytes : List ℕ) → (done : List (Option (List ℕ))) →
-        Cuts bytes done [] → told_lines bytes ≡ done }
+        Cuts bytes done [] → lines_or_too_long bytes ≡ done }
 {}

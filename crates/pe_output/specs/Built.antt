@@ -3,7 +3,7 @@
 -- The text of the lines as they are built is that of `OutputText` over these readings.
 use Rattle.std.specs.Prelude.{ℕ, Bool, false, not, ◌&&◌, ◌||◌, List, [], ◌∷◌, codes, map, Option, Some, None, is_some, unwrap_or, option_map, if◌then◌else◌}
 use Rattle.pe_lines.specs.declared.word.Word.{Word}
-use Rattle.pe_lines.specs.Lines.{told_lines, told_ended_lines}
+use Rattle.pe_lines.specs.Lines.{lines_or_too_long, ended_lines_or_too_long}
 use Rattle.pe_lines.specs.Words.{words_of}
 use Rattle.pe_events.specs.declared.cause.Cause.TheVariants as cause
 use Rattle.pe_script.specs.Names.{is_keyword}
@@ -41,12 +41,12 @@ reading_built (Some line) = as_built (words_of line) (reading_of line)
 
 -- the output text of a script, as far as its lines are built
 unfoldable pub built_text : ℕ → List ℕ → List ℕ
-built_text duration script = text_from duration 1 [] (map reading_built (told_lines script))
+built_text duration script = text_from duration 1 [] (map reading_built (lines_or_too_long script))
 
 -- the same of the lines that a line feed ended
 unfoldable pub built_ended_text : ℕ → List ℕ → List ℕ
-built_ended_text duration script = text_from duration 1 [] (map reading_built (told_ended_lines script))
+built_ended_text duration script = text_from duration 1 [] (map reading_built (ended_lines_or_too_long script))
 
 -- some line of the script is refused
 unfoldable pub built_refuses : ℕ → List ℕ → Bool
-built_refuses duration script = refuses_from duration [] (map reading_built (told_lines script))
+built_refuses duration script = refuses_from duration [] (map reading_built (lines_or_too_long script))

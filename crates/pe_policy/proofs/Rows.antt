@@ -9,7 +9,7 @@ use Rattle.pe_origin.specs.declared.origin.Origin.TheVariants as origin
 use Rattle.pe_allowlist.specs.declared.container.DeclaredOrigin.TheVariants.{Known}
 use Rattle.pe_allowlist.specs.ContainerPolicy.{container_policy}
 use Rattle.pe_allowlist.specs.Lists.{no_lists}
-use Rattle.pe_policy.specs.Links.{Link}
+use Rattle.pe_policy.specs.Links.{ChainDocument}
 use Rattle.pe_policy.specs.Denials.{denial}
 use Rattle.pe_policy.specs.InheritedPolicy.{value_for}
 use Rattle.pe_policy.proofs.OnLiterals.{denials_on_literals}
@@ -17,16 +17,16 @@ use Rattle.pe_policy.proofs.OnLiterals.{denials_on_literals}
 abbrev https : List ℕ → Origin
 https host = origin.Tuple (record { scheme = Https; host = host; form = Domain; port = 443 })
 
-abbrev shop : Link
+abbrev shop : ChainDocument
 shop = record { document = 1; origin = https (codes "shop.example"); declared = no_lists; container = no_lists }
 
-abbrev pay : Link
+abbrev pay : ChainDocument
 pay = record { document = 2; origin = https (codes "pay.example"); declared = no_lists; container = container_policy (Some (codes "payment 'src'; camera 'none'")) false shop.origin (Known pay_origin) }
   where
     pay_origin : Origin
     pay_origin = https (codes "pay.example")
 
-abbrev bank : Link
+abbrev bank : ChainDocument
 bank = record { document = 3; origin = https (codes "bank.example"); declared = no_lists; container = no_lists }
 
 -- the container policy admits the child

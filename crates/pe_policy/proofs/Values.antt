@@ -11,7 +11,7 @@ use Rattle.pe_origin.specs.Origins.{is_same_origin}
 use Rattle.pe_allowlist.specs.declared.allowlist.Allowlist.{Allowlist}
 use Rattle.pe_allowlist.specs.Allowlists.{matches}
 use Rattle.pe_allowlist.specs.Lists.{is_policy_controlled}
-use Rattle.pe_policy.specs.Links.{Link, last_link, refuses, is_own_origin, denied_where, pair_test, own_test}
+use Rattle.pe_policy.specs.Links.{ChainDocument, end_of_chain, refuses, is_own_origin, denied_where, pair_test, own_test}
 use Rattle.pe_policy.specs.Denials.{first_failing, denial}
 use Rattle.pe_policy.specs.InheritedPolicy.{value_by_declared, value_in, value_by_default, value_by_container, child_value, inherited_below, value_for}
 
@@ -51,7 +51,7 @@ pair-table true false false true d w x y z m n = refl
 pair-table true false false false true w x y z m n = refl
 pair-table true false false false false w x y z m n = refl
 
-pair-value : (f : Feature) (i : Bool) (p c : Link) → IsTrue (is_policy_controlled f) → child_value f i p c ≡ (i && is_none (pair_test f p c))
+pair-value : (f : Feature) (i : Bool) (p c : ChainDocument) → IsTrue (is_policy_controlled f) → child_value f i p c ≡ (i && is_none (pair_test f p c))
 unfolding child_value pair_test
 pair-value f i p c h =
     rw (refuses-declared (p.declared f) p.origin, refuses-declared (p.declared f) c.origin, container-tests (c.container f) (default_of f) c.origin (is_same_origin c.origin p.origin) h)
@@ -62,7 +62,7 @@ own-table false o w n = refl
 own-table true true w n = refl
 own-table true false w n = refl
 
-own-value : (f : Feature) (i : Bool) (l : Link) → value_in f i l l.origin ≡ (i && is_none (own_test f l))
+own-value : (f : Feature) (i : Bool) (l : ChainDocument) → value_in f i l l.origin ≡ (i && is_none (own_test f l))
 unfolding own_test
 own-value f i l = rw (refuses-declared (l.declared f) l.origin) (own-table i _ _ _)
 
@@ -71,8 +71,8 @@ and-assoc true b c = refl
 and-assoc false b c = refl
 
 -- the value in the last document, for its own origin, below a document with this inherited value
-values-below : (f : Feature) (i : Bool) (l : Link) (rest : List Link) → IsTrue (is_policy_controlled f)
-    → value_in f (inherited_below f i l rest) (last_link l rest) (last_link l rest).origin ≡ (i && is_none (first_failing f (l ∷ rest)))
+values-below : (f : Feature) (i : Bool) (l : ChainDocument) (rest : List ChainDocument) → IsTrue (is_policy_controlled f)
+    → value_in f (inherited_below f i l rest) (end_of_chain l rest) (end_of_chain l rest).origin ≡ (i && is_none (first_failing f (l ∷ rest)))
 unfolding inherited_below first_failing
 values-below f i l [] h = own-value f i l
 values-below f i l (c ∷ rest) h =
@@ -87,7 +87,7 @@ none-both : {A : Type 0} (o : Option A) (v : Bool) → v ≡ is_none o → (o �
 none-both o v e = (λ h. e ∙ ap is_none h, λ h. none-is o (sym e ∙ h))
 
 -- nothing denies the feature exactly where its value for the document's own origin is Enabled
-pub denial-value : (f : Feature) (top : Link) (rest : List Link) → IsTrue (is_policy_controlled f)
-    → (denial f (top ∷ rest) ≡ None) ↔ (value_for f (top ∷ rest) (last_link top rest).origin ≡ true)
+pub denial-value : (f : Feature) (top : ChainDocument) (rest : List ChainDocument) → IsTrue (is_policy_controlled f)
+    → (denial f (top ∷ rest) ≡ None) ↔ (value_for f (top ∷ rest) (end_of_chain top rest).origin ≡ true)
 unfolding denial value_for
 denial-value f top rest h = none-both _ _ (values-below f true top rest h ∙ rw h refl)

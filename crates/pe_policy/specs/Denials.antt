@@ -6,11 +6,11 @@ use Rattle.std.specs.Option.{option_or}
 use Rattle.pe_base.specs.declared.denial.Denial.{Denial}
 use Rattle.pe_features.specs.declared.feature.Feature.{Feature}
 use Rattle.pe_allowlist.specs.Lists.{is_policy_controlled}
-use Rattle.pe_policy.specs.Links.{Link, pair_test, own_test}
+use Rattle.pe_policy.specs.Links.{ChainDocument, pair_test, own_test}
 
 -- the first test that fails along the links from the top one on: those of each pair, and then that of
 -- the last link's own declared policy
-unfoldable pub first_failing : Feature → List Link → Option Denial
+unfoldable pub first_failing : Feature → List ChainDocument → Option Denial
 first_failing feature [] = None
 first_failing feature (link ∷ []) = own_test feature link
 first_failing feature (embedder ∷ child ∷ rest) =
@@ -18,5 +18,5 @@ first_failing feature (embedder ∷ child ∷ rest) =
 
 -- why the feature is denied in the last document: nothing where no test fails, or where the feature is
 -- not policy-controlled
-unfoldable pub denial : Feature → List Link → Option Denial
+unfoldable pub denial : Feature → List ChainDocument → Option Denial
 denial feature links = if is_policy_controlled feature then first_failing feature links else None

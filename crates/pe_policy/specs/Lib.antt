@@ -1,4 +1,4 @@
 pub mod Links
 pub mod Denials
 pub mod InheritedPolicy
-pub mod Failing
+pub mod PolicyValue

@@ -4,8 +4,8 @@ ghost use Rattle.pe_features.specs.declared.feature.Feature.{Feature};
 ghost use Rattle.pe_origin.specs.Origins.{is_same_origin};
 ghost use Rattle.pe_allowlist.specs.Lists.{lists_of};
 ghost use Rattle.pe_policy.specs.Links as spec;
-ghost use Rattle.pe_policy.specs.Links.{Link};
-ghost use Rattle.pe_policy.specs.Failing.{pair_rule, own_rule, link_of, failing_at_top, failing_at_child};
+ghost use Rattle.pe_policy.specs.Links.{ChainDocument};
+ghost use Rattle.pe_policy.specs.PolicyValue.{pair_rule, own_rule, link_of, failing_at_top, failing_at_child};
 
 use crate::row::Links;
 use pe_allowlist::{Container, Declared};
@@ -132,7 +132,7 @@ pub fn first_link(
     origin: &Origin,
     feature: Feature,
 ) -> Option<LinkRule>
-    ensures { (embedder child : Link)
+    ensures { (embedder child : ChainDocument)
         → (embedder.origin ≡ parent_origin.now)
         → ((f : Feature) → embedder.declared f ≡ lists_of parent.now f)
         → (child.origin ≡ origin.now)
@@ -145,7 +145,7 @@ pub fn first_link(
 /// `OwnHeader` where the feature is policy-controlled and the document's declared policy has it and
 /// does not match the document's origin; None otherwise.
 pub fn own_link(declared: &Declared, origin: &Origin, feature: Feature) -> Option<LinkRule>
-    ensures { (link : Link)
+    ensures { (link : ChainDocument)
         → (link.origin ≡ origin.now)
         → ((f : Feature) → link.declared f ≡ lists_of declared.now f)
         → result ≡ own_rule feature link }

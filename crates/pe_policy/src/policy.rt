@@ -3,12 +3,12 @@ ghost use Rattle.std.specs.Prelude.{◌≡◌, ◌↔◌, IsTrue, IsFalse, List,
 ghost use Rattle.pe_features.specs.declared.feature.Feature.{Feature};
 ghost use Rattle.pe_features.specs.Features.{feature_number};
 ghost use Rattle.pe_allowlist.specs.Lists.{is_policy_controlled};
-ghost use Rattle.pe_policy.specs.Links.{Link, last_link};
+ghost use Rattle.pe_policy.specs.Links.{ChainDocument, end_of_chain};
 ghost use Rattle.pe_policy.specs.Denials.{denial};
 ghost use Rattle.pe_policy.specs.InheritedPolicy.{value_for};
-ghost use Rattle.pe_policy.specs.Failing.{row_of, top_row, child_row, allowed_row, no_links};
-ghost use Rattle.pe_policy.specs.Failing.{failing_at_top, failing_at_child, failing_at, link_of};
-ghost use Rattle.pe_policy.specs.Failing.{IsDocument, IsContained, StandsFor};
+ghost use Rattle.pe_policy.specs.PolicyValue.{row_of, top_row, child_row, allowed_row, no_links};
+ghost use Rattle.pe_policy.specs.PolicyValue.{failing_at_top, failing_at_child, failing_at, link_of};
+ghost use Rattle.pe_policy.specs.PolicyValue.{IsDocument, IsContained, IsPolicyOf};
 
 use crate::link::{failing_at_child, failing_at_top};
 use crate::row::{Links, Row};
@@ -29,15 +29,15 @@ pub struct Policy {
 }
 
 impl Model for Policy {
-    ghost use Rattle.pe_policy.specs.Failing.{Rows};
+    ghost use Rattle.pe_policy.specs.PolicyValue.{PolicyValue};
 
-    ghost Value = { Rows };
+    ghost Value = { PolicyValue };
 
     ghost use Rattle.std.specs.Prelude.{◌≡◌, IsFalse, slice_index_or};
     ghost use Rattle.pe_features.specs.declared.feature.Feature.{Feature};
     ghost use Rattle.pe_features.specs.Features.{feature_number};
     ghost use Rattle.pe_allowlist.specs.Lists.{is_policy_controlled};
-    ghost use Rattle.pe_policy.specs.Failing.{allowed_row};
+    ghost use Rattle.pe_policy.specs.PolicyValue.{allowed_row};
 
     ghost view = { λ p. record { document = p.doc; rows = p.rows; declared = p.declared } };
 
@@ -100,7 +100,7 @@ impl Policy {
         ensures declares { result.declared ≡ declared }
         ensures rows { (f : Feature)
             → row_of result f ≡ top_row (failing_at_top f (link_of 0 origin.now declared [])) doc }
-        ensures stands { (top : Link) → IsDocument top doc origin.now declared → StandsFor result top [] }
+        ensures stands { (top : ChainDocument) → IsDocument top doc origin.now declared → IsPolicyOf result top [] }
     {
         let rows = top_rows(&declared, origin, doc);
         Policy {
@@ -127,12 +127,12 @@ impl Policy {
             ≡ child_row (row_of parent.now f).denial
             (failing_at_child f (link_of 0 parent_origin.now parent.now.declared []) (link_of 0 origin.now declared container.now))
             parent.now.document doc }
-        ensures stands { (top : Link) (rest : List Link) (child : Link)
-            → StandsFor parent.now top rest
-            → (last_link top rest).origin ≡ parent_origin.now
+        ensures stands { (top : ChainDocument) (rest : List ChainDocument) (child : ChainDocument)
+            → IsPolicyOf parent.now top rest
+            → (end_of_chain top rest).origin ≡ parent_origin.now
             → IsDocument child doc origin.now declared
             → IsContained child container.now
-            → StandsFor result top (rest ++ child ∷ []) }
+            → IsPolicyOf result top (rest ++ child ∷ []) }
     {
         let rows = child_rows(parent, parent_origin, container, origin, &declared, doc);
         Policy {
@@ -143,7 +143,7 @@ impl Policy {
     }
 
     /// The row of the feature.
-    #[tactic(auto, using(std::proofs::lemmas::List::get_or_default), unfolding(crate::specs::Failing::row_of))]
+    #[tactic(auto, using(std::proofs::lemmas::List::get_or_default), unfolding(crate::specs::PolicyValue::row_of))]
     fn row(&self, feature: Feature) -> Row
         ensures row { result ≡ row_of self.now feature }
         ensures uncontrolled { IsFalse (is_policy_controlled feature) → result ≡ allowed_row }
@@ -157,13 +157,13 @@ impl Policy {
     pub fn why(&self, feature: Feature) -> Option<Denial>
         ensures row { result ≡ (row_of self.now feature).denial }
         ensures uncontrolled { IsFalse (is_policy_controlled feature) → result ≡ None }
-        ensures first { (top : Link) (rest : List Link)
-            → StandsFor self.now top rest
+        ensures first { (top : ChainDocument) (rest : List ChainDocument)
+            → IsPolicyOf self.now top rest
             → result ≡ denial feature (top ∷ rest) }
-        ensures value { (top : Link) (rest : List Link)
-            → StandsFor self.now top rest
+        ensures value { (top : ChainDocument) (rest : List ChainDocument)
+            → IsPolicyOf self.now top rest
             → IsTrue (is_policy_controlled feature)
-            → (result ≡ None) ↔ (value_for feature (top ∷ rest) (last_link top rest).origin ≡ true) }
+            → (result ≡ None) ↔ (value_for feature (top ∷ rest) (end_of_chain top rest).origin ≡ true) }
     {
         self.row(feature).denial
     }
@@ -172,8 +172,8 @@ impl Policy {
     pub fn links(&self, feature: Feature) -> Links
         ensures row { result ≡ (row_of self.now feature).links }
         ensures uncontrolled { IsFalse (is_policy_controlled feature) → result ≡ no_links }
-        ensures exact { (top : Link) (rest : List Link)
-            → StandsFor self.now top rest
+        ensures exact { (top : ChainDocument) (rest : List ChainDocument)
+            → IsPolicyOf self.now top rest
             → result ≡ failing_at feature (top ∷ rest) }
     {
         self.row(feature).links

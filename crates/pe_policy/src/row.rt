@@ -1,6 +1,6 @@
 //! What a document keeps of a feature.
 ghost use Rattle.std.specs.Prelude.{◌≡◌};
-ghost use Rattle.pe_policy.specs.Failing as spec;
+ghost use Rattle.pe_policy.specs.PolicyValue as spec;
 
 use pe_base::{Denial, DocNo, LinkRule};
 

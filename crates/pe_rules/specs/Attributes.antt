@@ -6,7 +6,7 @@ use Rattle.pe_events.specs.declared.event.AttrName.{AttrName}
 use Rattle.pe_events.specs.declared.event.AttrName.TheVariants.{Src, Srcdoc, Allow, Sandbox, Fullscreen}
 use Rattle.pe_events.specs.declared.event.Event.{Event}
 use Rattle.pe_events.specs.declared.event.Event.TheVariants as event
-use Rattle.pe_rules.specs.History.{Told, when, newest}
+use Rattle.pe_rules.specs.History.{RepliedHistory, some_if, newest_answer}
 
 -- the values of a frame's attributes, and which of the two that have none stand
 pub record Attributes : Type 0 where
@@ -31,7 +31,7 @@ is_same_name _ _ = false
 
 -- an attribute of which only matters that it stands, as a text that is there or not
 abbrev pub standing : Bool → Option (List ℕ)
-standing stands = when stands []
+standing stands = some_if stands []
 
 -- the attribute that an embedding gives its frame
 abbrev pub value_given : AttrName → Attributes → Option (List ℕ)
@@ -43,17 +43,17 @@ value_given Fullscreen given = standing given.fullscreen
 
 -- what the event at position k makes of the attribute of frame f, where it does: a value, or none
 abbrev pub attribute_by : Event → ℕ → ℕ → AttrName → Option (Option (List ℕ))
-attribute_by (event.Attr frame name value) k f n = when (frame == f && is_same_name name n) value
+attribute_by (event.Attr frame name value) k f n = some_if (frame == f && is_same_name name n) value
 attribute_by (event.Embed parent src place allow sandbox fullscreen srcdoc header) k f n =
-    when (k == f) (value_given n (record { src = src; srcdoc = srcdoc; allow = allow; sandbox = sandbox; fullscreen = fullscreen }))
+    some_if (k == f) (value_given n (record { src = src; srcdoc = srcdoc; allow = allow; sandbox = sandbox; fullscreen = fullscreen }))
 attribute_by e k f n = None
 
 -- the attribute of the frame: that of the last event that gives it one; none in a top frame without such an event
-unfoldable pub attribute : Told → ℕ → AttrName → Option (List ℕ)
-attribute T f n = unwrap_or (newest (λ s B. attribute_by s.event (length (s ∷ B)) f n) T) None
+unfoldable pub attribute : RepliedHistory → ℕ → AttrName → Option (List ℕ)
+attribute T f n = unwrap_or (newest_answer (λ s B. attribute_by s.event (length (s ∷ B)) f n) T) None
 
 -- the attributes of the frame
-unfoldable pub attributes_of : Told → ℕ → Attributes
+unfoldable pub attributes_of : RepliedHistory → ℕ → Attributes
 attributes_of T f = record {
   src = attribute T f Src;
   srcdoc = is_some (attribute T f Srcdoc);

@@ -12,8 +12,8 @@ use Rattle.pe_events.specs.declared.event.Event.{Event}
 use Rattle.pe_events.specs.declared.event.Event.TheVariants as event
 use Rattle.pe_events.specs.declared.reason.Verdict.TheVariants as verdict
 use Rattle.pe_events.specs.declared.reason.Via.TheVariants as via
-use Rattle.pe_rules.specs.History.{Item, Said, Judged, Told, when, newest, step_at}
-use Rattle.pe_rules.specs.Numbering.{made, makes_message}
+use Rattle.pe_rules.specs.History.{StepAnswer, Replied, Judged, RepliedHistory, some_if, newest_answer, step_at}
+use Rattle.pe_rules.specs.Numbering.{numbers_made, makes_message}
 use Rattle.pe_rules.specs.Making.{frame_of}
 use Rattle.pe_rules.specs.Embedders.{page_of_frame}
 use Rattle.pe_rules.specs.Current.{document_in}
@@ -31,13 +31,13 @@ abbrev pub is_same_capability : Capability → Capability → Bool
 is_same_capability a b = same_feature (feature_of a) (feature_of b)
 
 -- the message that the event posts after these steps
-abbrev pub message_by : Event → Told → Option Message
+abbrev pub message_by : Event → RepliedHistory → Option Message
 message_by (event.Post sender target named capability) B =
     option_and_then (λ d. option_and_then (λ p. option_map (λ c. record { page = p; target = d; origin = option_and_then word_origin named; capability = c }) (capability_named capability)) (page_of_frame B sender)) (document_in B target)
 message_by e B = None
 
 -- the message of a number
-unfoldable pub message : Told → ℕ → Option Message
+unfoldable pub message : RepliedHistory → ℕ → Option Message
 message T m = option_and_then (λ a. message_by a.0.event a.1) (step_at T m)
 
 -- the event is a delivery of the message, whatever comes of it
@@ -46,33 +46,33 @@ is_delivery_of (event.Deliver message) m = message == m
 is_delivery_of e m = false
 
 -- the message is settled: a delivery names it, whatever was told
-unfoldable pub is_message_settled : Told → ℕ → Bool
-is_message_settled T m = is_some (newest (λ s B. when (is_delivery_of s.event m) m) T)
+unfoldable pub is_message_settled : RepliedHistory → ℕ → Bool
+is_message_settled T m = is_some (newest_answer (λ s B. some_if (is_delivery_of s.event m) m) T)
 
 -- the message is one of the page that is not settled
-abbrev pub is_waiting_in : Told → ℕ → ℕ → Bool
+abbrev pub is_waiting_in : RepliedHistory → ℕ → ℕ → Bool
 is_waiting_in T top m = not (is_message_settled T m) && unwrap_or (option_map (λ x. x.page == top) (message T m)) false
 
 -- the messages of a page that are not settled
-unfoldable pub waiting_messages : Told → ℕ → List ℕ
-waiting_messages T top = filter (is_waiting_in T top) (made (λ s. makes_message s.item) T)
+unfoldable pub waiting_messages : RepliedHistory → ℕ → List ℕ
+waiting_messages T top = filter (is_waiting_in T top) (numbers_made (λ s. makes_message s.item) T)
 
 -- what was told is that a message was delivered
-abbrev pub is_delivered : Item → Bool
-is_delivered (Said answer.Delivered) = true
+abbrev pub is_delivered : StepAnswer → Bool
+is_delivered (Replied answer.Delivered) = true
 is_delivered item = false
 
 -- the message is for document d and has this capability
-abbrev pub is_message_for : Told → ℕ → ℕ → Capability → Bool
+abbrev pub is_message_for : RepliedHistory → ℕ → ℕ → Capability → Bool
 is_message_for B m d capability = unwrap_or (option_map (λ x. x.target == d && is_same_capability x.capability capability) (message B m)) false
 
 -- the event, of which this was told, delivers the capability to document d
-abbrev pub hands_over : Event → Item → Told → ℕ → Capability → Bool
+abbrev pub hands_over : Event → StepAnswer → RepliedHistory → ℕ → Capability → Bool
 hands_over (event.Deliver m) item B d capability = is_delivered item && is_message_for B m d capability
 hands_over e item B d capability = false
 
 -- what was told is that a use was met by a delegated capability
-abbrev pub is_by_delegated : Item → Bool
+abbrev pub is_by_delegated : StepAnswer → Bool
 is_by_delegated (Judged (verdict.Allowed via.Delegated)) = true
 is_by_delegated item = false
 
@@ -81,19 +81,19 @@ abbrev pub is_call_of : List ℕ → Capability → Bool
 is_call_of name capability = unwrap_or (option_map (is_same_capability capability) (option_and_then (λ call. (gate_of call).capability) (call_named name))) false
 
 -- the event, of which this was told, spends the capability of the frame's document
-abbrev pub spends : Event → Item → ℕ → Capability → Bool
+abbrev pub spends : Event → StepAnswer → ℕ → Capability → Bool
 spends (event.UseCall frame call) item f capability = is_by_delegated item && frame == f && is_call_of call capability
 spends e item f capability = false
 
 -- the last delivery of the capability to document d: its position and its time
-unfoldable pub last_delivery : Told → ℕ → Capability → Option (ℕ × ℕ)
-last_delivery T d capability = newest (λ s B. when (hands_over s.event s.item B d capability) (length (s ∷ B), s.time)) T
+unfoldable pub last_delivery : RepliedHistory → ℕ → Capability → Option (ℕ × ℕ)
+last_delivery T d capability = newest_answer (λ s B. some_if (hands_over s.event s.item B d capability) (length (s ∷ B), s.time)) T
 
 -- the capability was spent in the frame after a position
-unfoldable pub is_spent_since : Told → ℕ → ℕ → Capability → Bool
-is_spent_since T position f capability = is_some (newest (λ s B. when (nat_lt position (length (s ∷ B)) && spends s.event s.item f capability) position) T)
+unfoldable pub is_spent_since : RepliedHistory → ℕ → ℕ → Capability → Bool
+is_spent_since T position f capability = is_some (newest_answer (λ s B. some_if (nat_lt position (length (s ∷ B)) && spends s.event s.item f capability) position) T)
 
 -- document d holds the capability: its last delivery is younger than the duration, and it was not spent since
-unfoldable pub has_delegated : ℕ → Told → ℕ → ℕ → Capability → Bool
+unfoldable pub has_delegated : ℕ → RepliedHistory → ℕ → ℕ → Capability → Bool
 has_delegated duration T now d capability =
     unwrap_or (option_map (λ last. nat_lt now (last.1 + duration) && not (is_spent_since T last.0 (frame_of T d) capability)) (last_delivery T d capability)) false

@@ -4,7 +4,7 @@
 use Rattle.std.specs.Prelude.{ℕ, ◌+◌, Bool, false, ◌==◌, List, [], ◌∷◌, length, codes, Option, Some, None, unwrap_or, option_map, option_and_then, if◌then◌else◌}
 use Rattle.pe_events.specs.declared.event.Event.{Event}
 use Rattle.pe_events.specs.declared.event.Event.TheVariants as event
-use Rattle.pe_rules.specs.History.{Told, newest}
+use Rattle.pe_rules.specs.History.{RepliedHistory, newest_answer}
 use Rattle.pe_rules.specs.Numbering.{last_document, parent_frame}
 use Rattle.pe_rules.specs.Attributes.{Attributes, no_attributes, attributes_of}
 
@@ -22,7 +22,7 @@ abbrev pub embedded_url : Option (List ℕ) → Option (List ℕ) → List ℕ
 embedded_url place src = unwrap_or place (unwrap_or src (codes "about:blank"))
 
 -- the document that an event makes after these steps
-unfoldable pub making_by : Event → Told → Option Making
+unfoldable pub making_by : Event → RepliedHistory → Option Making
 making_by (event.OpenPage url header) B = Some (record {
   frame = length B + 1;
   url = url;
@@ -50,18 +50,18 @@ making_by (event.Navigate frame url header) B = Some (record {
 making_by e B = None
 
 -- the making of a document
-unfoldable pub making : Told → ℕ → Option Making
-making T d = newest (λ s B. if d == length (s ∷ B) then making_by s.event B else None) T
+unfoldable pub making : RepliedHistory → ℕ → Option Making
+making T d = newest_answer (λ s B. if d == length (s ∷ B) then making_by s.event B else None) T
 
 -- a value of each document, by the steps up to its making, the making and the value of its embedder
-unfoldable pub along : {A : Type 0} → A → (Told → Making → Option A → A) → Told → ℕ → A
-along other rule [] d = other
-along other rule (s ∷ T) d =
-    let earlier = along other rule T d in
-    let of_embedder = λ (m : Making). option_map (along other rule T) m.embedder in
+unfoldable pub fold_embedders : {A : Type 0} → A → (RepliedHistory → Making → Option A → A) → RepliedHistory → ℕ → A
+fold_embedders other rule [] d = other
+fold_embedders other rule (s ∷ T) d =
+    let earlier = fold_embedders other rule T d in
+    let of_embedder = λ (m : Making). option_map (fold_embedders other rule T) m.embedder in
     let here = unwrap_or (option_map (λ m. rule (s ∷ T) m (of_embedder m)) (making_by s.event T)) other in
     if d == length (s ∷ T) then here else earlier
 
 -- the frame of a document
-unfoldable pub frame_of : Told → ℕ → ℕ
+unfoldable pub frame_of : RepliedHistory → ℕ → ℕ
 frame_of T d = unwrap_or (option_map (λ m. m.frame) (making T d)) 0

@@ -5,7 +5,7 @@ use Rattle.std.specs.Prelude.{ℕ, Bool, true, false, ◌&&◌, ◌==◌, List, 
 use Rattle.pe_events.specs.declared.answer.Answer.TheVariants as answer
 use Rattle.pe_events.specs.declared.event.Event.{Event}
 use Rattle.pe_events.specs.declared.event.Event.TheVariants as event
-use Rattle.pe_rules.specs.History.{Item, Said, Step, Told, when, newest, each, each_newest}
+use Rattle.pe_rules.specs.History.{StepAnswer, Replied, Step, RepliedHistory, some_if, newest_answer, all_answers, answers_newest_first}
 
 -- the event makes a frame: it opens a page or embeds a frame
 abbrev pub makes_frame : Event → Bool
@@ -26,50 +26,50 @@ makes_status (event.Query frame feature) = true
 makes_status e = false
 
 -- what was told is that a prompt was made
-abbrev pub makes_prompt : Item → Bool
-makes_prompt (Said (answer.PromptMade prompt)) = true
+abbrev pub makes_prompt : StepAnswer → Bool
+makes_prompt (Replied (answer.PromptMade prompt)) = true
 makes_prompt item = false
 
 -- what was told is that a message was made
-abbrev pub makes_message : Item → Bool
-makes_message (Said (answer.MessageMade message)) = true
+abbrev pub makes_message : StepAnswer → Bool
+makes_message (Replied (answer.MessageMade message)) = true
 makes_message item = false
 
 -- some position that passes a test has this number
-abbrev pub is_made : (Step → Bool) → Told → ℕ → Bool
-is_made makes T k = is_some (newest (λ s B. when (k == length (s ∷ B) && makes s) k) T)
+abbrev pub is_made : (Step → Bool) → RepliedHistory → ℕ → Bool
+is_made makes T k = is_some (newest_answer (λ s B. some_if (k == length (s ∷ B) && makes s) k) T)
 
 -- the number is that of a frame
-unfoldable pub is_frame : Told → ℕ → Bool
+unfoldable pub is_frame : RepliedHistory → ℕ → Bool
 is_frame T k = is_made (λ s. makes_frame s.event) T k
 
 -- the number is that of a status
-unfoldable pub is_status : Told → ℕ → Bool
+unfoldable pub is_status : RepliedHistory → ℕ → Bool
 is_status T k = is_made (λ s. makes_status s.event) T k
 
 -- the number is that of a prompt
-unfoldable pub is_prompt : Told → ℕ → Bool
+unfoldable pub is_prompt : RepliedHistory → ℕ → Bool
 is_prompt T k = is_made (λ s. makes_prompt s.item) T k
 
 -- the number is that of a message
-unfoldable pub is_message : Told → ℕ → Bool
+unfoldable pub is_message : RepliedHistory → ℕ → Bool
 is_message T k = is_made (λ s. makes_message s.item) T k
 
 -- the numbers whose positions pass a test, rising
-abbrev pub made : (Step → Bool) → Told → List ℕ
-made makes T = each (λ s B. option_to_list (when (makes s) (length (s ∷ B)))) T
+abbrev pub numbers_made : (Step → Bool) → RepliedHistory → List ℕ
+numbers_made makes T = all_answers (λ s B. option_to_list (some_if (makes s) (length (s ∷ B)))) T
 
 -- the frames that were made, newest first
-unfoldable pub frames_made : Told → List ℕ
-frames_made T = each_newest (λ s B. when (makes_frame s.event) (length (s ∷ B))) T
+unfoldable pub frames_made : RepliedHistory → List ℕ
+frames_made T = answers_newest_first (λ s B. some_if (makes_frame s.event) (length (s ∷ B))) T
 
 -- the documents that were made, newest first
-unfoldable pub documents_made : Told → List ℕ
-documents_made T = each_newest (λ s B. when (is_some (document_frame s.event 0)) (length (s ∷ B))) T
+unfoldable pub documents_made : RepliedHistory → List ℕ
+documents_made T = answers_newest_first (λ s B. some_if (is_some (document_frame s.event 0)) (length (s ∷ B))) T
 
 -- the last document made in a frame
-unfoldable pub last_document : Told → ℕ → Option ℕ
-last_document T f = newest (λ s B. option_and_then (λ g. when (g == f) (length (s ∷ B))) (document_frame s.event (length (s ∷ B)))) T
+unfoldable pub last_document : RepliedHistory → ℕ → Option ℕ
+last_document T f = newest_answer (λ s B. option_and_then (λ g. some_if (g == f) (length (s ∷ B))) (document_frame s.event (length (s ∷ B)))) T
 
 -- the frame in which the event embeds a frame
 abbrev pub parent_by : Event → Option ℕ
@@ -77,5 +77,5 @@ parent_by (event.Embed parent src place allow sandbox fullscreen srcdoc header) 
 parent_by e = None
 
 -- the parent of a frame; a top frame has none
-unfoldable pub parent_frame : Told → ℕ → Option ℕ
-parent_frame T f = newest (λ s B. if f == length (s ∷ B) then parent_by s.event else None) T
+unfoldable pub parent_frame : RepliedHistory → ℕ → Option ℕ
+parent_frame T f = newest_answer (λ s B. if f == length (s ∷ B) then parent_by s.event else None) T

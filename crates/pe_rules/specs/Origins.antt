@@ -13,9 +13,9 @@ use Rattle.pe_origin.specs.declared.place.PlaceKind.{PlaceKind}
 use Rattle.pe_origin.specs.declared.place.PlaceKind.TheVariants.{Blank, Other}
 use Rattle.pe_origin.specs.Places.{place_at}
 use Rattle.pe_origin.specs.Trust.{is_trustworthy}
-use Rattle.pe_rules.specs.History.{Told}
+use Rattle.pe_rules.specs.History.{RepliedHistory}
 use Rattle.pe_rules.specs.Attributes.{Attributes}
-use Rattle.pe_rules.specs.Making.{Making, making, along}
+use Rattle.pe_rules.specs.Making.{Making, making, fold_embedders}
 use Rattle.pe_rules.specs.Embedders.{top_document}
 
 -- what stands for a text that is no URL, which no accepted event has
@@ -40,15 +40,15 @@ abbrev pub is_sandboxed : Attributes → Bool
 is_sandboxed attributes = unwrap_or (option_map sandboxes_origin attributes.sandbox) false
 
 -- the sandbox flag: the embedder has it, or the sandbox attribute sets it; a top document has none
-unfoldable pub sandbox_flag : Told → ℕ → Bool
-sandbox_flag T d = along false (λ H m above. unwrap_or (option_map (λ flag. flag || is_sandboxed m.attributes) above) false) T d
+unfoldable pub sandbox_flag : RepliedHistory → ℕ → Bool
+sandbox_flag T d = fold_embedders false (λ H m above. unwrap_or (option_map (λ flag. flag || is_sandboxed m.attributes) above) false) T d
 
 -- the origin that a document has of its URL alone
 abbrev pub origin_of_place : ℕ → Place → Origin
 origin_of_place d place = unwrap_or (option_map origin.Tuple place.tuple) (origin.Opaque d)
 
 -- the origin of the document that was made last, from that of its embedder
-abbrev pub origin_rule : Told → Making → Option Origin → Origin
+abbrev pub origin_rule : RepliedHistory → Making → Option Origin → Origin
 origin_rule H m above =
     let d = length H in
     let place = place_or_none m.url in
@@ -56,8 +56,8 @@ origin_rule H m above =
     else (if m.srcdoc || is_blank_kind place.kind then unwrap_or above (origin_of_place d place) else origin_of_place d place)
 
 -- the origin of a document
-unfoldable pub origin_of : Told → ℕ → Origin
-origin_of T d = along (origin.Opaque 0) origin_rule T d
+unfoldable pub origin_of : RepliedHistory → ℕ → Origin
+origin_of T d = fold_embedders (origin.Opaque 0) origin_rule T d
 
 -- the declared origin that a place gives
 abbrev pub declared_by_place : Origin → Place → DeclaredOrigin
@@ -77,5 +77,5 @@ declared_origin attributes flag embedder =
     else (if attributes.srcdoc then declared.Known embedder else declared_by_src embedder attributes.src)
 
 -- the document is in a secure context: the URL of its top document is potentially trustworthy
-unfoldable pub is_secure : Told → ℕ → Bool
+unfoldable pub is_secure : RepliedHistory → ℕ → Bool
 is_secure T d = unwrap_or (option_map (λ m. is_trustworthy (place_or_none m.url)) (making T (top_document T d))) false

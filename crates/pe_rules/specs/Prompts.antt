@@ -5,30 +5,30 @@ use Rattle.std.specs.Prelude.{ℕ, Bool, false, not, ◌&&◌, ◌==◌, List, [
 use Rattle.pe_events.specs.declared.answer.Answer.TheVariants as answer
 use Rattle.pe_events.specs.declared.event.Event.{Event}
 use Rattle.pe_events.specs.declared.event.Event.TheVariants as event
-use Rattle.pe_rules.specs.History.{Item, Said, Step, Told, when, newest, each}
-use Rattle.pe_rules.specs.Numbering.{made, makes_prompt}
+use Rattle.pe_rules.specs.History.{StepAnswer, Replied, Step, RepliedHistory, some_if, newest_answer, all_answers}
+use Rattle.pe_rules.specs.Numbering.{numbers_made, makes_prompt}
 use Rattle.pe_rules.specs.Current.{is_current, document_in}
 use Rattle.pe_store.specs.Pairs.{Pair, is_same_pair}
 use Rattle.pe_rules.specs.Settings.{prompt_pair, prompt_page}
 
 -- the prompt that a request was told, made or joined
-abbrev pub prompt_told : Item → Option ℕ
-prompt_told (Said (answer.PromptMade prompt)) = Some prompt
-prompt_told (Said (answer.PromptJoined prompt)) = Some prompt
-prompt_told item = None
+abbrev pub prompt_replied : StepAnswer → Option ℕ
+prompt_replied (Replied (answer.PromptMade prompt)) = Some prompt
+prompt_replied (Replied (answer.PromptJoined prompt)) = Some prompt
+prompt_replied item = None
 
 -- the document of a request
-abbrev pub asker : Event → Told → Option ℕ
-asker (event.Request frame feature) B = document_in B frame
-asker e B = None
+abbrev pub requesting_document : Event → RepliedHistory → Option ℕ
+requesting_document (event.Request frame feature) B = document_in B frame
+requesting_document e B = None
 
 -- the document of a request of prompt k
-abbrev pub asker_of : ℕ → Step → Told → Option ℕ
-asker_of k s B = option_and_then (λ p. option_and_then (λ d. when (p == k) d) (asker s.event B)) (prompt_told s.item)
+abbrev pub requesting_document_of : ℕ → Step → RepliedHistory → Option ℕ
+requesting_document_of k s B = option_and_then (λ p. option_and_then (λ d. some_if (p == k) d) (requesting_document s.event B)) (prompt_replied s.item)
 
 -- the documents of the requests of a prompt, in order
-unfoldable pub requests : Told → ℕ → List ℕ
-requests T k = each (λ s B. option_to_list (asker_of k s B)) T
+unfoldable pub requests : RepliedHistory → ℕ → List ℕ
+requests T k = all_answers (λ s B. option_to_list (requesting_document_of k s B)) T
 
 -- the event answers the prompt
 abbrev pub answers : Event → ℕ → Bool
@@ -36,24 +36,24 @@ answers (event.Answered prompt out given) k = prompt == k
 answers e k = false
 
 -- the prompt is settled: an answer names it
-unfoldable pub is_settled : Told → ℕ → Bool
-is_settled T k = is_some (newest (λ s B. when (answers s.event k) k) T)
+unfoldable pub is_settled : RepliedHistory → ℕ → Bool
+is_settled T k = is_some (newest_answer (λ s B. some_if (answers s.event k) k) T)
 
 -- the documents that wait for the prompt: of its requests, those whose documents are current
-unfoldable pub waiting : Told → ℕ → List ℕ
+unfoldable pub waiting : RepliedHistory → ℕ → List ℕ
 waiting T k = filter (is_current T) (requests T k)
 
 -- the prompt is pending: it is not settled, and some document waits for it
-unfoldable pub is_pending : Told → ℕ → Bool
+unfoldable pub is_pending : RepliedHistory → ℕ → Bool
 is_pending T k = not (is_settled T k) && not (length (waiting T k) == 0)
 
 -- the prompt is one of the page
-abbrev pub is_prompt_of : Told → ℕ → ℕ → Bool
+abbrev pub is_prompt_of : RepliedHistory → ℕ → ℕ → Bool
 is_prompt_of T top k = unwrap_or (option_map (λ p. p == top) (prompt_page T k)) false
 
 -- the pending prompts of a page, by number
-unfoldable pub pending : Told → ℕ → List ℕ
-pending T top = filter (λ k. is_pending T k && is_prompt_of T top k) (made (λ s. makes_prompt s.item) T)
+unfoldable pub pending : RepliedHistory → ℕ → List ℕ
+pending T top = filter (λ k. is_pending T k && is_prompt_of T top k) (numbers_made (λ s. makes_prompt s.item) T)
 
 -- the first of a list
 abbrev pub first_of : {A : Type 0} → List A → Option A
@@ -61,13 +61,13 @@ first_of [] = None
 first_of (x ∷ xs) = Some x
 
 -- the shown prompt of a page: its pending prompt of least number
-unfoldable pub shown : Told → ℕ → Option ℕ
-shown T top = first_of (pending T top)
+unfoldable pub shown_prompt : RepliedHistory → ℕ → Option ℕ
+shown_prompt T top = first_of (pending T top)
 
 -- the prompt asks for this pair
-abbrev pub is_prompt_for : Told → Pair → ℕ → Bool
+abbrev pub is_prompt_for : RepliedHistory → Pair → ℕ → Bool
 is_prompt_for T pair k = unwrap_or (option_map (λ q. is_same_pair q pair) (prompt_pair T k)) false
 
 -- the pending prompt of the page that a request of this pair joins
-unfoldable pub joined : Told → ℕ → Pair → Option ℕ
-joined T top pair = first_of (filter (is_prompt_for T pair) (pending T top))
+unfoldable pub pending_prompt_of : RepliedHistory → ℕ → Pair → Option ℕ
+pending_prompt_of T top pair = first_of (filter (is_prompt_for T pair) (pending T top))

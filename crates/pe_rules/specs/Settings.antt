@@ -23,7 +23,7 @@ use Rattle.pe_events.specs.declared.event.EventLife.{EventLife}
 use Rattle.pe_events.specs.declared.event.EventLife.TheVariants as given
 use Rattle.pe_events.specs.declared.event.Outcome.{Outcome}
 use Rattle.pe_events.specs.declared.event.Outcome.TheVariants as outcome
-use Rattle.pe_rules.specs.History.{Step, Told, when, step_at, clock}
+use Rattle.pe_rules.specs.History.{Step, RepliedHistory, some_if, step_at, clock}
 use Rattle.pe_rules.specs.Embedders.{top_document, page}
 use Rattle.pe_rules.specs.Current.{is_current, document_in}
 use Rattle.pe_rules.specs.Origins.{origin_of, place_or_none}
@@ -34,24 +34,24 @@ key_by_kind kind.Single top own = key.One top
 key_by_kind kind.Pair top own = key.Pair top own
 
 -- the permission key of a feature for a document; none for a feature without a permission
-unfoldable pub key_for : Told → ℕ → Feature → Option Key
+unfoldable pub key_for : RepliedHistory → ℕ → Feature → Option Key
 key_for T d feature = option_map (λ k. key_by_kind k (origin_of T (top_document T d)) (origin_of T d)) (key_of feature)
 
 -- the pair of a feature for a document
-unfoldable pub pair_for : Told → ℕ → Feature → Option Pair
+unfoldable pub pair_for : RepliedHistory → ℕ → Feature → Option Pair
 pair_for T d feature = option_map (λ k. (feature, k)) (key_for T d feature)
 
 -- the document that an event asks a permission for, with the feature
-abbrev pub asking : Event → Told → Option (ℕ × Feature)
+abbrev pub asking : Event → RepliedHistory → Option (ℕ × Feature)
 asking (event.Request frame feature) B = option_and_then (λ d. option_map (λ f. (d, f)) (feature_named feature)) (document_in B frame)
 asking e B = None
 
 -- the pair of a prompt: that of the document and the feature of its request
-unfoldable pub prompt_pair : Told → ℕ → Option Pair
+unfoldable pub prompt_pair : RepliedHistory → ℕ → Option Pair
 prompt_pair T k = option_and_then (λ a. option_and_then (λ q. pair_for a.1 q.0 q.1) (asking a.0.event a.1)) (step_at T k)
 
 -- the page of a prompt: that of its request's document
-unfoldable pub prompt_page : Told → ℕ → Option ℕ
+unfoldable pub prompt_page : RepliedHistory → ℕ → Option ℕ
 prompt_page T k = option_and_then (λ a. option_map (λ q. page a.1 q.0) (asking a.0.event a.1)) (step_at T k)
 
 -- a setting of a pair
@@ -88,7 +88,7 @@ stored_by_outcome outcome.Block = Some state.Denied
 stored_by_outcome outcome.Dismiss = None
 
 -- the setting that a `set`, or an answer that allows or blocks, makes at this time, after these steps
-unfoldable pub setting_named : ℕ → Event → Told → Option Setting
+unfoldable pub setting_named : ℕ → Event → RepliedHistory → Option Setting
 setting_named time (event.SetState feature first second state span) B =
     option_and_then (λ f. option_map (λ o. record { pair = (f, key_of_words o (option_and_then word_origin second)); state = state; life = life_for time span }) (word_origin first)) (feature_named feature)
 setting_named time (event.Answered prompt out given) B =
@@ -96,7 +96,7 @@ setting_named time (event.Answered prompt out given) B =
 setting_named time e B = None
 
 -- a life holds at a time
-unfoldable pub holds : Told → ℕ → Life → Bool
+unfoldable pub holds : RepliedHistory → ℕ → Life → Bool
 holds T now life.Forever = true
 holds T now (life.Until end) = nat_lt now end
 holds T now (life.Page d) = is_current T d
@@ -109,8 +109,8 @@ pub record Standing : Type 0 where
   pub dismissals : ℕ
 
 -- the state that a last setting stores at a time: its own, while its life holds
-unfoldable pub stored_by : Told → ℕ → Option Setting → Option State
-stored_by T now last = option_and_then (λ x. when (holds T now x.life) x.state) last
+unfoldable pub stored_by : RepliedHistory → ℕ → Option Setting → Option State
+stored_by T now last = option_and_then (λ x. some_if (holds T now x.life) x.state) last
 
 -- nothing or prompt: the user did not decide
 abbrev pub is_undecided : Option State → Bool
@@ -119,12 +119,12 @@ is_undecided (Some state.Prompt) = true
 is_undecided other = false
 
 -- the pair of the prompt that the event dismisses
-abbrev pub dismissed_pair : Event → Told → Option Pair
+abbrev pub dismissed_pair : Event → RepliedHistory → Option Pair
 dismissed_pair (event.Answered prompt outcome.Dismiss given) B = prompt_pair B prompt
 dismissed_pair e B = None
 
 -- a dismissal of a pair counts where nothing or prompt is stored for it at that time
-unfoldable pub counts : Told → ℕ → Standing → Bool
+unfoldable pub counts : RepliedHistory → ℕ → Standing → Bool
 counts B time before = is_undecided (stored_by B time before.last)
 
 -- the setting of an embargo: denied for its span
@@ -146,42 +146,42 @@ abbrev pub is_pair : Option Pair → Pair → Bool
 is_pair named pair = unwrap_or (option_map (λ p. is_same_pair p pair) named) false
 
 -- what stands for a pair after a step that makes no setting of it by name
-unfoldable pub after_unnamed : Step → Told → Pair → Standing → Standing
+unfoldable pub after_unnamed : Step → RepliedHistory → Pair → Standing → Standing
 after_unnamed s B pair before =
     if is_pair (dismissed_pair s.event B) pair && counts B s.time before then after_dismissal s.time pair before else before
 
 -- what stands for a pair after a step: a setting starts the count anew
-unfoldable pub after_step : Step → Told → Pair → Standing → Standing
+unfoldable pub after_step : Step → RepliedHistory → Pair → Standing → Standing
 after_step s B pair before =
-    unwrap_or (option_map (λ x. record { last = Some x; dismissals = 0 }) (option_and_then (λ x. when (is_same_pair x.pair pair) x) (setting_named s.time s.event B))) (after_unnamed s B pair before)
+    unwrap_or (option_map (λ x. record { last = Some x; dismissals = 0 }) (option_and_then (λ x. some_if (is_same_pair x.pair pair) x) (setting_named s.time s.event B))) (after_unnamed s B pair before)
 
 -- what stands for a pair
-unfoldable pub standing_of : Told → Pair → Standing
+unfoldable pub standing_of : RepliedHistory → Pair → Standing
 standing_of [] pair = record { last = None; dismissals = 0 }
 standing_of (s ∷ T) pair = let before = standing_of T pair in after_step s T pair before
 
 -- the last setting of a pair
-unfoldable pub last_setting : Told → Pair → Option Setting
+unfoldable pub last_setting : RepliedHistory → Pair → Option Setting
 last_setting T pair = (standing_of T pair).last
 
 -- how many dismissals of a pair counted since its last setting
-unfoldable pub dismissals : Told → Pair → ℕ
+unfoldable pub dismissals : RepliedHistory → Pair → ℕ
 dismissals T pair = (standing_of T pair).dismissals
 
 -- the embargo that a dismissal of this pair makes at this time, after these steps
-unfoldable pub embargo_for : ℕ → Told → Pair → Option Setting
-embargo_for time B pair = let before = standing_of B pair in when (counts B time before && completes_embargo before) (embargo time pair)
+unfoldable pub embargo_for : ℕ → RepliedHistory → Pair → Option Setting
+embargo_for time B pair = let before = standing_of B pair in some_if (counts B time before && completes_embargo before) (embargo time pair)
 
 -- the setting that the event makes at this time, after these steps: by name, or as an embargo
-unfoldable pub setting_by : ℕ → Event → Told → Option Setting
+unfoldable pub setting_by : ℕ → Event → RepliedHistory → Option Setting
 setting_by time e B = option_or (setting_named time e B) (option_and_then (embargo_for time B) (dismissed_pair e B))
 
 -- ---- what is stored
 
 -- the stored state of a pair at a time: that of its last setting while its life holds; no earlier setting is looked at
-unfoldable pub stored : Told → ℕ → Pair → Option State
-stored T now pair = stored_by T now (last_setting T pair)
+unfoldable pub stored_state : RepliedHistory → ℕ → Pair → Option State
+stored_state T now pair = stored_by T now (last_setting T pair)
 
 -- the pair has an entry: something is stored at the clock
-unfoldable pub has_entry : Told → Pair → Bool
-has_entry T pair = is_some (stored T (clock T) pair)
+unfoldable pub has_entry : RepliedHistory → Pair → Bool
+has_entry T pair = is_some (stored_state T (clock T) pair)

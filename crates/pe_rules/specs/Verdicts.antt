@@ -16,7 +16,7 @@ use Rattle.pe_events.specs.declared.reason.Verdict.{Verdict}
 use Rattle.pe_events.specs.declared.reason.Verdict.TheVariants as verdict
 use Rattle.pe_events.specs.declared.reason.Via.{Via}
 use Rattle.pe_events.specs.declared.reason.Via.TheVariants as via
-use Rattle.pe_rules.specs.History.{Told, when}
+use Rattle.pe_rules.specs.History.{RepliedHistory, some_if}
 use Rattle.pe_rules.specs.Origins.{is_secure}
 use Rattle.pe_rules.specs.Denials.{why_denied}
 use Rattle.pe_rules.specs.Activation.{has_sticky, has_transient}
@@ -30,23 +30,23 @@ reason_of_state state.Denied = Some reason.PermissionDenied
 reason_of_state state.Prompt = Some reason.PermissionPrompt
 
 -- the reason of a call's permission, where it wants one
-unfoldable pub permission_reason : Told → ℕ → ℕ → Gate → Option Reason
+unfoldable pub permission_reason : RepliedHistory → ℕ → ℕ → Gate → Option Reason
 permission_reason T now d gate = option_and_then (λ f. if gate.permission then reason_of_state (permission_state T now d f) else None) gate.feature
 
 -- the call has a capability that the document holds
-unfoldable pub is_met_by_delegated : ℕ → Told → ℕ → ℕ → Gate → Bool
+unfoldable pub is_met_by_delegated : ℕ → RepliedHistory → ℕ → ℕ → Gate → Bool
 is_met_by_delegated duration T now d gate = unwrap_or (option_map (has_delegated duration T now d) gate.capability) false
 
 -- the reason of a need of user activation, by what the document has
 abbrev pub activation_reason : Need → Bool → Bool → Bool → Option Reason
 activation_reason Nothing sticky transient delegated = None
-activation_reason Sticky sticky transient delegated = when (not sticky) reason.NoSticky
-activation_reason Transient sticky transient delegated = when (not (transient || delegated)) reason.NoTransient
+activation_reason Sticky sticky transient delegated = some_if (not sticky) reason.NoSticky
+activation_reason Transient sticky transient delegated = some_if (not (transient || delegated)) reason.NoTransient
 
 -- the first rule of the call that fails
-unfoldable pub reason_denied : ℕ → Told → ℕ → ℕ → Gate → Option Reason
+unfoldable pub reason_denied : ℕ → RepliedHistory → ℕ → ℕ → Gate → Option Reason
 reason_denied duration T now d gate =
-    option_or (when (gate.secure && not (is_secure T d)) reason.Insecure)
+    option_or (some_if (gate.secure && not (is_secure T d)) reason.Insecure)
     (option_or (option_map reason.Policy (option_and_then (λ f. why_denied T f d) gate.feature))
     (option_or (permission_reason T now d gate)
     (activation_reason gate.need (has_sticky T d) (has_transient duration T now d) (is_met_by_delegated duration T now d gate))))
@@ -62,5 +62,5 @@ verdict_by (Some why) way = verdict.Denied why
 verdict_by None way = verdict.Allowed way
 
 -- the verdict of a call in document d
-unfoldable pub verdict_of : ℕ → Told → ℕ → ℕ → Call → Verdict
+unfoldable pub verdict_of : ℕ → RepliedHistory → ℕ → ℕ → Call → Verdict
 verdict_of duration T now d call = verdict_by (reason_denied duration T now d (gate_of call)) (met_by (gate_of call).need (has_transient duration T now d))

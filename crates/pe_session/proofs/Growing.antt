@@ -5,7 +5,7 @@ use Rattle.std.proofs.Math.Nat.{add_comm}
 use Rattle.std.proofs.lemmas.List.Elements.{filter-append}
 use Rattle.std.proofs.lemmas.Bool.Decides.{nat_tests}
 use Rattle.pe_events.specs.declared.event.Event.{Event}
-use Rattle.pe_rules.specs.History.{Item, Step, Told, when, each, clock}
+use Rattle.pe_rules.specs.History.{StepAnswer, Step, RepliedHistory, some_if, all_answers, clock}
 use Rattle.pe_rules.specs.Numbering.{makes_frame, is_frame, frames_made, parent_frame}
 use Rattle.pe_rules.specs.Embedders.{page_of_frame}
 use Rattle.pe_rules.specs.Current.{document_in, is_live}
@@ -19,17 +19,17 @@ use Rattle.pe_session.proofs.Older.{IsQuiet, is-frame-older, parent-older, live-
 -- ---- what an event adds
 
 -- the frame that an event makes
-abbrev pub frame_added : Step → Told → List ℕ
-frame_added s T = option_to_list (when (makes_frame s.event) (suc (length T)))
+abbrev pub frame_added : Step → RepliedHistory → List ℕ
+frame_added s T = option_to_list (some_if (makes_frame s.event) (suc (length T)))
 
 -- the tests of live pages and of the live frames of a page
-abbrev pub is_page : Told → ℕ → Bool
+abbrev pub is_page : RepliedHistory → ℕ → Bool
 is_page T f = is_live T f && is_none (parent_frame T f)
 
-abbrev pub is_in_page : Told → ℕ → ℕ → Bool
+abbrev pub is_in_page : RepliedHistory → ℕ → ℕ → Bool
 is_in_page T top f = is_live T f && is_same_number (page_of_frame T f) (Some top)
 
-count-step : (s : Step) (T : Told) (old new : ℕ → Bool) → ((f : ℕ) → f ≤ length T → new f ≡ old f)
+count-step : (s : Step) (T : RepliedHistory) (old new : ℕ → Bool) → ((f : ℕ) → f ≤ length T → new f ≡ old f)
     → length (filter new (frames_made (s ∷ T))) ≡ length (filter old (frames_made T)) + length (filter new (frame_added s T))
 count-step s T old new same =
     ap (λ xs. length (filter new xs)) (frames-step s T)
@@ -38,37 +38,37 @@ count-step s T old new same =
     ∙ ap (λ xs. length (filter new (frame_added s T)) + length xs) (filter-same (length T) new old (frames_made T) (frames-within T) same)
     ∙ add_comm (length (filter new (frame_added s T))) (length (filter old (frames_made T)))
 
-pub pages-step : (s : Step) (T : Told) → IsQuiet s.event → length (live_pages (s ∷ T)) ≡ length (live_pages T) + length (filter (is_page (s ∷ T)) (frame_added s T))
+pub pages-step : (s : Step) (T : RepliedHistory) → IsQuiet s.event → length (live_pages (s ∷ T)) ≡ length (live_pages T) + length (filter (is_page (s ∷ T)) (frame_added s T))
 unfolding live_pages
 pages-step s T q = count-step s T (is_page T) (is_page (s ∷ T)) (λ f h. let ne : f ≢ suc (length T) = omega arith in rw (live-older s T f q h, parent-older s T f ne) refl)
 
-pub frames-of-step : (s : Step) (T : Told) (top : ℕ) → IsQuiet s.event → length (live_frames (s ∷ T) top) ≡ length (live_frames T top) + length (filter (is_in_page (s ∷ T) top) (frame_added s T))
+pub frames-of-step : (s : Step) (T : RepliedHistory) (top : ℕ) → IsQuiet s.event → length (live_frames (s ∷ T) top) ≡ length (live_frames T top) + length (filter (is_in_page (s ∷ T) top) (frame_added s T))
 unfolding live_frames
 frames-of-step s T top q = count-step s T (is_in_page T top) (is_in_page (s ∷ T) top) (λ f h. rw (live-older s T f q h, page-of-frame-older s T f q h) refl)
 
 -- ---- a frame
 
-pub live-kept : (T : Told) (k : ℕ) (row : Frame) → IsKept T k row → is_live T k ≡ true
+pub live-kept : (T : RepliedHistory) (k : ℕ) (row : Frame) → IsKept T k row → is_live T k ≡ true
 unfolding is_live document_in
 live-kept T k row w = rw (w.document, w.current) refl
 
-pub page-kept : (T : Told) (k : ℕ) (row : Frame) → IsKept T k row → page_of_frame T k ≡ Some (row.page + 1)
+pub page-kept : (T : RepliedHistory) (k : ℕ) (row : Frame) → IsKept T k row → page_of_frame T k ≡ Some (row.page + 1)
 unfolding page_of_frame
 page-kept T k row w = rw (w.document, w.top) refl
 
-added : (s : Step) (T : Told) → makes_frame s.event ≡ true → frame_added s T ≡ suc (length T) ∷ []
+added : (s : Step) (T : RepliedHistory) → makes_frame s.event ≡ true → frame_added s T ≡ suc (length T) ∷ []
 added s T e = rw e refl
 
-pub pages-kept : (s : Step) (T : Told) (row : Frame) (b : Bool) → IsQuiet s.event → makes_frame s.event ≡ true → IsKept (s ∷ T) (suc (length T)) row
+pub pages-kept : (s : Step) (T : RepliedHistory) (row : Frame) (b : Bool) → IsQuiet s.event → makes_frame s.event ≡ true → IsKept (s ∷ T) (suc (length T)) row
     → is_none (parent_frame (s ∷ T) (suc (length T))) ≡ b → length (live_pages (s ∷ T)) ≡ length (live_pages T) + length (filter (λ f. b) (suc (length T) ∷ []))
 pages-kept s T row b q e w parent = pages-step s T q ∙ rw (added s T e, live-kept (s ∷ T) (suc (length T)) row w, parent) refl
 
-pub size-grown : (s : Step) (T : Told) (row : Frame) (i : ℕ) → IsQuiet s.event → makes_frame s.event ≡ true → IsKept (s ∷ T) (suc (length T)) row → i ≡ row.page
+pub size-grown : (s : Step) (T : RepliedHistory) (row : Frame) (i : ℕ) → IsQuiet s.event → makes_frame s.event ≡ true → IsKept (s ∷ T) (suc (length T)) row → i ≡ row.page
     → length (live_frames (s ∷ T) (i + 1)) ≡ length (live_frames T (i + 1)) + 1
 size-grown s T row i q e w is =
     frames-of-step s T (i + 1) q ∙ rw (added s T e, live-kept (s ∷ T) (suc (length T)) row w, page-kept (s ∷ T) (suc (length T)) row w, is, is_same (row.page + 1)) refl
 
-pub size-same : (s : Step) (T : Told) (row : Frame) (i : ℕ) → IsQuiet s.event → makes_frame s.event ≡ true → IsKept (s ∷ T) (suc (length T)) row → i ≢ row.page
+pub size-same : (s : Step) (T : RepliedHistory) (row : Frame) (i : ℕ) → IsQuiet s.event → makes_frame s.event ≡ true → IsKept (s ∷ T) (suc (length T)) row → i ≢ row.page
     → length (live_frames (s ∷ T) (i + 1)) ≡ length (live_frames T (i + 1))
 size-same s T row i q e w ne =
     let apart : row.page + 1 ≢ i + 1 = omega arith in
@@ -76,23 +76,23 @@ size-same s T row i q e w ne =
 
 -- ---- no frame
 
-none-added : (s : Step) (T : Told) → makes_frame s.event ≡ false → frame_added s T ≡ []
+none-added : (s : Step) (T : RepliedHistory) → makes_frame s.event ≡ false → frame_added s T ≡ []
 none-added s T e = rw e refl
 
-pub pages-same : (s : Step) (T : Told) → IsQuiet s.event → makes_frame s.event ≡ false → length (live_pages (s ∷ T)) ≡ length (live_pages T)
+pub pages-same : (s : Step) (T : RepliedHistory) → IsQuiet s.event → makes_frame s.event ≡ false → length (live_pages (s ∷ T)) ≡ length (live_pages T)
 pages-same s T q e = pages-step s T q ∙ rw (none-added s T e) (omega arith)
 
-pub sizes-same : (s : Step) (T : Told) (top : ℕ) → IsQuiet s.event → makes_frame s.event ≡ false → length (live_frames (s ∷ T) top) ≡ length (live_frames T top)
+pub sizes-same : (s : Step) (T : RepliedHistory) (top : ℕ) → IsQuiet s.event → makes_frame s.event ≡ false → length (live_frames (s ∷ T) top) ≡ length (live_frames T top)
 sizes-same s T top q e = frames-of-step s T top q ∙ rw (none-added s T e) (omega arith)
 
 -- ---- all of it
 
-pub clock-step : (e : Event) (item : Item) (T : Told) → clock (step_of e item ∷ T) ≡ 0
+pub clock-step : (e : Event) (item : StepAnswer) (T : RepliedHistory) → clock (step_of e item ∷ T) ≡ 0
 unfolding clock
 clock-step e item T = refl
 
-pub statuses-step : (s : Step) (T : Told) → IsQuiet s.event → statuses_made T ≡ [] → statuses_made (s ∷ T) ≡ []
-unfolding each
+pub statuses-step : (s : Step) (T : RepliedHistory) → IsQuiet s.event → statuses_made T ≡ [] → statuses_made (s ∷ T) ≡ []
+unfolding all_answers
 statuses-step s T q e = rw (e, q.status T (suc (length T))) refl
 
 -- a number is below another, the same, or above it
@@ -117,7 +117,7 @@ get_or-beyond (x ∷ xs) i h = by_place i h (λ j g. get_or-beyond xs j g)
     by_place (suc j) h later = later j (omega arith)
 
 -- what is kept of each position, with one more
-pub at-step : (frames : List (Option Frame)) (o : Option Frame) (s : Step) (T : Told) → IsQuiet s.event → length frames ≡ length T
+pub at-step : (frames : List (Option Frame)) (o : Option Frame) (s : Step) (T : RepliedHistory) → IsQuiet s.event → length frames ≡ length T
     → ((i : ℕ) → IsKeptAt T (i + 1) (get_or frames i None)) → IsKeptAt (s ∷ T) (suc (length T)) o
     → (i : ℕ) → IsKeptAt (s ∷ T) (i + 1) (get_or (frames ++ o ∷ []) i None)
 at-step frames o s T q count at new i =
@@ -167,7 +167,7 @@ pub zero-at-end : (xs : List ℕ) (i : ℕ) → i ≡ length xs → get_or xs i 
 zero-at-end xs i e = let beyond : length xs ≤ i = omega arith in zero-beyond xs i beyond
 
 -- with an event that makes a frame
-pub keep-frame : (frames : List (Option Frame)) (sizes sizes' : List ℕ) (pages pages' : ℕ) (e : Event) (item : Item) (T : Told) (row : Frame)
+pub keep-frame : (frames : List (Option Frame)) (sizes sizes' : List ℕ) (pages pages' : ℕ) (e : Event) (item : StepAnswer) (T : RepliedHistory) (row : Frame)
     → AreKept frames sizes pages T → IsQuiet e → makes_frame e ≡ true → length T < 1000000 → IsKept (step_of e item ∷ T) (suc (length T)) row
     → length sizes' ≡ length T + 1
     → ((i : ℕ) → i ≡ row.page → get_or sizes' i 0 ≡ get_or sizes i 0 + 1) → ((i : ℕ) → i ≢ row.page → get_or sizes' i 0 ≡ get_or sizes i 0)
@@ -196,7 +196,7 @@ keep-frame frames sizes sizes' pages pages' e item T row kept q makes room new s
     }
 
 -- with an event that makes none
-pub keep-none : (frames : List (Option Frame)) (sizes sizes' : List ℕ) (pages : ℕ) (e : Event) (item : Item) (T : Told)
+pub keep-none : (frames : List (Option Frame)) (sizes sizes' : List ℕ) (pages : ℕ) (e : Event) (item : StepAnswer) (T : RepliedHistory)
     → AreKept frames sizes pages T → IsQuiet e → makes_frame e ≡ false → length T < 1000000
     → is_frame (step_of e item ∷ T) (suc (length T)) ≡ false
     → length sizes' ≡ length T + 1 → ((i : ℕ) → get_or sizes' i 0 ≡ get_or sizes i 0)

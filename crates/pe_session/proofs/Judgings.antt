@@ -7,11 +7,11 @@ use Rattle.pe_events.specs.declared.cause.Cause.{Cause}
 use Rattle.pe_events.specs.declared.event.Event.{Event}
 use Rattle.pe_events.specs.Timed.{Timed}
 use Rattle.pe_script.specs.Reading.{Reading, Silent, Refusal, Says}
-use Rattle.pe_rules.specs.History.{Told, History, clock}
+use Rattle.pe_rules.specs.History.{RepliedHistory, History, clock}
 use Rattle.pe_rules.specs.Causes.{cause_of}
 use Rattle.pe_rules.specs.Changes.{numbers_above, changes_before, changes_after}
 use Rattle.pe_rules.specs.Statuses.{live_statuses}
-use Rattle.pe_rules.specs.Replies.{told, item_of, accepts_in, reply_in, answer_of}
+use Rattle.pe_rules.specs.Replies.{replied, step_answer, accepts_in, reply_in, answer_of}
 use Rattle.pe_output.specs.Built.{reading_built}
 use Rattle.pe_output.specs.OutputText.{event_text, line_text, history_after, history_after_line, is_refused}
 use Rattle.pe_session.specs.declared.events.Events.{Events}
@@ -24,11 +24,11 @@ use Rattle.pe_session.specs.Saying.{reading_said}
 
 -- ---- what an event at time 0 brings
 
-no-changes-before : (T : Told) → clock T ≡ 0 → changes_before T 0 ≡ []
+no-changes-before : (T : RepliedHistory) → clock T ≡ 0 → changes_before T 0 ≡ []
 unfolding changes_before numbers_above
 no-changes-before T e = rw e refl
 
-no-changes-after : (T U : Told) (events : Events) → Keeps events T → changes_after T U 0 ≡ []
+no-changes-after : (T U : RepliedHistory) (events : Events) → Keeps events T → changes_after T U 0 ≡ []
 unfolding changes_after live_statuses
 no-changes-after T U events h = rw h.statuses refl
 
@@ -36,47 +36,47 @@ no-changes-after T U events h = rw h.statuses refl
 abbrev pub at_zero : Event → Timed
 at_zero e = record { time = 0; event = e }
 
-accepted-is : (T : Told) (e : Event) → cause_of T 0 e ≡ None → accepts_in T (at_zero e) ≡ true
+accepted-is : (T : RepliedHistory) (e : Event) → cause_of T 0 e ≡ None → accepts_in T (at_zero e) ≡ true
 unfolding accepts_in
 accepted-is T e c = rw c refl
 
-refused-is : (T : Told) (e : Event) (why : Cause) → cause_of T 0 e ≡ Some why → accepts_in T (at_zero e) ≡ false
+refused-is : (T : RepliedHistory) (e : Event) (why : Cause) → cause_of T 0 e ≡ Some why → accepts_in T (at_zero e) ≡ false
 unfolding accepts_in
 refused-is T e why c = rw c refl
 
-reply-accepted : (duration : ℕ) (T : Told) (e : Event) (said : Answer) → cause_of T 0 e ≡ None → answer_of duration T 0 e ≡ said → reply_in duration T 0 e ≡ said
+reply-accepted : (duration : ℕ) (T : RepliedHistory) (e : Event) (said : Answer) → cause_of T 0 e ≡ None → answer_of duration T 0 e ≡ said → reply_in duration T 0 e ≡ said
 unfolding reply_in
 reply-accepted duration T e said c a = rw (c, a) refl
 
-reply-refused : (duration : ℕ) (T : Told) (e : Event) (why : Cause) → cause_of T 0 e ≡ Some why → reply_in duration T 0 e ≡ answer.Refused why
+reply-refused : (duration : ℕ) (T : RepliedHistory) (e : Event) (why : Cause) → cause_of T 0 e ≡ Some why → reply_in duration T 0 e ≡ answer.Refused why
 unfolding reply_in
 reply-refused duration T e why c = rw c refl
 
-text-accepted : (duration number : ℕ) (H : History) (e : Event) (said : Answer) (old : Events) → Keeps old (told duration H) → cause_of (told duration H) 0 e ≡ None → answer_of duration (told duration H) 0 e ≡ said
+text-accepted : (duration number : ℕ) (H : History) (e : Event) (said : Answer) (old : Events) → Keeps old (replied duration H) → cause_of (replied duration H) 0 e ≡ None → answer_of duration (replied duration H) 0 e ≡ said
     → event_text duration number H (at_zero e) ≡ answer_text number said
 unfolding event_text
 text-accepted duration number H e said old h c a =
     rw (
-      accepted-is (told duration H) e c,
-      no-changes-before (told duration H) h.clock_is,
-      reply-accepted duration (told duration H) e said c a,
-      no-changes-after (told duration H) (told duration (at_zero e ∷ H)) old h,
+      accepted-is (replied duration H) e c,
+      no-changes-before (replied duration H) h.clock_is,
+      reply-accepted duration (replied duration H) e said c a,
+      no-changes-after (replied duration H) (replied duration (at_zero e ∷ H)) old h,
     ) (append-nil (answer_text number said))
 
-text-refused : (duration number : ℕ) (H : History) (e : Event) (why : Cause) → cause_of (told duration H) 0 e ≡ Some why → event_text duration number H (at_zero e) ≡ answer_text number (answer.Refused why)
+text-refused : (duration number : ℕ) (H : History) (e : Event) (why : Cause) → cause_of (replied duration H) 0 e ≡ Some why → event_text duration number H (at_zero e) ≡ answer_text number (answer.Refused why)
 unfolding event_text
-text-refused duration number H e why c = rw (refused-is (told duration H) e why c, reply-refused duration (told duration H) e why c) refl
+text-refused duration number H e why c = rw (refused-is (replied duration H) e why c, reply-refused duration (replied duration H) e why c) refl
 
-history-accepted : (duration : ℕ) (H : History) (e : Event) → cause_of (told duration H) 0 e ≡ None → history_after duration H (at_zero e) ≡ at_zero e ∷ H
+history-accepted : (duration : ℕ) (H : History) (e : Event) → cause_of (replied duration H) 0 e ≡ None → history_after duration H (at_zero e) ≡ at_zero e ∷ H
 unfolding history_after
-history-accepted duration H e c = rw (accepted-is (told duration H) e c) refl
+history-accepted duration H e c = rw (accepted-is (replied duration H) e c) refl
 
-history-refused : (duration : ℕ) (H : History) (e : Event) (why : Cause) → cause_of (told duration H) 0 e ≡ Some why → history_after duration H (at_zero e) ≡ H
+history-refused : (duration : ℕ) (H : History) (e : Event) (why : Cause) → cause_of (replied duration H) 0 e ≡ Some why → history_after duration H (at_zero e) ≡ H
 unfolding history_after
-history-refused duration H e why c = rw (refused-is (told duration H) e why c) refl
+history-refused duration H e why c = rw (refused-is (replied duration H) e why c) refl
 
-told-more : (duration : ℕ) (H : History) (e : Event) → told duration (at_zero e ∷ H) ≡ step_of e (item_of duration (told duration H) 0 e) ∷ told duration H
-unfolding told
+told-more : (duration : ℕ) (H : History) (e : Event) → replied duration (at_zero e ∷ H) ≡ step_of e (step_answer duration (replied duration H) 0 e) ∷ replied duration H
+unfolding replied
 told-more duration H e = refl
 
 -- ---- lines
@@ -100,32 +100,32 @@ judged-refusal duration events number H line out new why h e text = record {
 }
 
 judged-refused : (duration : ℕ) (events : Events) (number : ℕ) (H : History) (line : Option (List ℕ)) (out new : List ℕ) (e : Event) (why : Cause) → reading_built line ≡ Says (at_zero e)
-    → IsRefusal (told duration H) e events why → new ≡ out ++ answer_text number (answer.Refused why) → Judged duration events number H line out new true
+    → IsRefusal (replied duration H) e events why → new ≡ out ++ answer_text number (answer.Refused why) → Judged duration events number H line out new true
 unfolding line_text history_after_line is_refused
 judged-refused duration events number H line out new e why says r text = record {
   stands = rw (says, history-refused duration H e why r.cause) r.kept;
   text = rw (says, text-refused duration number H e why r.cause) text;
-  refused_is = rw (says, refused-is (told duration H) e why r.cause) refl;
+  refused_is = rw (says, refused-is (replied duration H) e why r.cause) refl;
 }
 
 judged-accepted : (duration : ℕ) (old events : Events) (number : ℕ) (H : History) (line : Option (List ℕ)) (out new : List ℕ) (e : Event) (said : Answer) → Stands duration old H → reading_built line ≡ Says (at_zero e)
-    → IsAcceptance duration (told duration H) e events said → new ≡ out ++ answer_text number said → Judged duration events number H line out new false
+    → IsAcceptance duration (replied duration H) e events said → new ≡ out ++ answer_text number said → Judged duration events number H line out new false
 unfolding line_text history_after_line is_refused
 judged-accepted duration old events number H line out new e said h says a text = record {
-  stands = rw (says, history-accepted duration H e a.cause, told-more duration H e) (a.kept (item_of duration (told duration H) 0 e));
+  stands = rw (says, history-accepted duration H e a.cause, told-more duration H e) (a.kept (step_answer duration (replied duration H) 0 e));
   text = rw (says, text-accepted duration number H e said old h a.cause a.answer_is) text;
-  refused_is = rw (says, accepted-is (told duration H) e a.cause) refl;
+  refused_is = rw (says, accepted-is (replied duration H) e a.cause) refl;
 }
 
 judged-says : (duration : ℕ) (old events : Events) (number : ℕ) (H : History) (line : Option (List ℕ)) (out new : List ℕ) (e : Event) (reply : Reply) → Stands duration old H → reading_built line ≡ Says (at_zero e)
-    → IsReply duration (told duration H) e events reply → new ≡ out ++ answer_text number (told_reply reply) → Judged duration events number H line out new (is_refusal reply)
+    → IsReply duration (replied duration H) e events reply → new ≡ out ++ answer_text number (told_reply reply) → Judged duration events number H line out new (is_refusal reply)
 judged-says duration old events number H line out new e (Refused why) h says r text = judged-refused duration events number H line out new e why says r text
 judged-says duration old events number H line out new e (FrameMade made origin) h says r text = judged-accepted duration old events number H line out new e _ h says r text
 judged-says duration old events number H line out new e Allowed h says r text = judged-accepted duration old events number H line out new e _ h says r text
 judged-says duration old events number H line out new e (Denied denial) h says r text = judged-accepted duration old events number H line out new e _ h says r text
 
 pub judged-reply : (duration : ℕ) (old events : Events) (number : ℕ) (H : History) (line : Option (List ℕ)) (out new : List ℕ) (reading : Reading) (reply : Reply) → Stands duration old H → reading_built line ≡ reading
-    → AnswersReading duration (told duration H) reading events reply → new ≡ out ++ answer_text number (told_reply reply) → Judged duration events number H line out new (is_refusal reply)
+    → AnswersReading duration (replied duration H) reading events reply → new ≡ out ++ answer_text number (told_reply reply) → Judged duration events number H line out new (is_refusal reply)
 judged-reply duration old events number H line out new Silent reply h is r text = absurd r
 judged-reply duration old events number H line out new (Refusal why) reply h is r text =
     rw r.0 (judged-refusal duration events number H line out new why r.1 is (rw r.0 at text))
@@ -134,7 +134,7 @@ judged-reply duration old events number H line out new (Says e) reply h is r tex
 
 -- ---- words
 
-pub words-answered : (duration : ℕ) (T : Told) (o : Option Event) (events : Events) (reply : Reply) → AnswersWords duration T o events reply → AnswersReading duration T (reading_said o) events reply
+pub words-answered : (duration : ℕ) (T : RepliedHistory) (o : Option Event) (events : Events) (reply : Reply) → AnswersWords duration T o events reply → AnswersReading duration T (reading_said o) events reply
 words-answered duration T None events reply a = a
 words-answered duration T (Some e) events reply a = (refl, a)
 

@@ -2,16 +2,16 @@
 use Rattle.std.proofs.Common.{◌≡◌, ◌≢◌, ℕ, suc, ◌≤◌, Bool, true, false, ◌&&◌, ◌==◌, List, [], ◌∷◌, ◌++◌, length, filter, Option, Some, None, is_some, option_map, option_and_then, option_to_list, refl, sym, ◌∙◌, ap, arith}
 use Rattle.pe_events.specs.declared.event.Event.{Event}
 use Rattle.pe_events.specs.declared.event.Event.TheVariants as event
-use Rattle.pe_rules.specs.History.{Step, Told, when, newest, each_newest}
+use Rattle.pe_rules.specs.History.{Step, RepliedHistory, some_if, newest_answer, answers_newest_first}
 use Rattle.pe_rules.specs.Numbering.{makes_frame, document_frame, is_frame, frames_made, last_document, parent_frame}
 use Rattle.pe_rules.specs.Embedders.{chain, first_or, top_document, page, page_of_frame}
 use Rattle.pe_rules.specs.Current.{ends, frames_above, is_current, document_in, is_live}
-use Rattle.pe_rules.specs.Denials.{link}
+use Rattle.pe_rules.specs.Denials.{chain_document}
 use Rattle.pe_rules.specs.Statuses.{status_by}
 use Rattle.pe_laws.proofs.Numbers.{not_same}
 use Rattle.pe_laws.proofs.Older.{AllWithin, origin-older, chain-older, flag-older, declared-older, container-older, links-older, frame-older, chain-within, last-below}
 use Rattle.pe_laws.proofs.Current.{current-older}
-use Rattle.pe_policy.specs.Failing.{Rows}
+use Rattle.pe_policy.specs.PolicyValue.{PolicyValue}
 use Rattle.pe_session.specs.declared.frame.Frame.{Frame}
 use Rattle.pe_session.specs.Saying.{page_event, child_event}
 use Rattle.pe_session.specs.Keeping.{HasPolicy, IsKept, IsKeptAt}
@@ -19,10 +19,10 @@ use Rattle.pe_session.specs.Keeping.{HasPolicy, IsKept, IsKeptAt}
 -- the event ends no document, makes no document in an older frame, and makes no status
 pub record IsQuiet (e : Event) : Type 0 where
   pub ends_none : (frames : List ℕ) → ends frames e ≡ false
-  pub own : (k f : ℕ) → k ≢ f → option_and_then (λ g. when (g == f) k) (document_frame e k) ≡ None
-  pub status : (B : Told) (k : ℕ) → status_by e B k ≡ None
+  pub own : (k f : ℕ) → k ≢ f → option_and_then (λ g. some_if (g == f) k) (document_frame e k) ≡ None
+  pub status : (B : RepliedHistory) (k : ℕ) → status_by e B k ≡ None
 
-own-number : (k f : ℕ) → k ≢ f → when (k == f) k ≡ None
+own-number : (k f : ℕ) → k ≢ f → some_if (k == f) k ≡ None
 own-number k f ne = rw (not_same k f ne) refl
 
 pub quiet-open : (url : List ℕ) (header : Option (List ℕ)) → IsQuiet (page_event url header)
@@ -34,19 +34,19 @@ quiet-embed parent url header = record { ends_none = λ frames. refl; own = own-
 pub quiet-policy : (frame : ℕ) (name : List ℕ) → IsQuiet (event.PolicyOf frame name)
 quiet-policy frame name = record { ends_none = λ frames. refl; own = λ k f ne. refl; status = λ B k. refl }
 
-pub last-older : (s : Step) (T : Told) (f : ℕ) → IsQuiet s.event → suc (length T) ≢ f → last_document (s ∷ T) f ≡ last_document T f
-unfolding last_document newest
+pub last-older : (s : Step) (T : RepliedHistory) (f : ℕ) → IsQuiet s.event → suc (length T) ≢ f → last_document (s ∷ T) f ≡ last_document T f
+unfolding last_document newest_answer
 last-older s T f q ne = rw (q.own (suc (length T)) f ne) refl
 
-pub is-frame-older : (s : Step) (T : Told) (k : ℕ) → k ≢ suc (length T) → is_frame (s ∷ T) k ≡ is_frame T k
-unfolding is_frame newest
+pub is-frame-older : (s : Step) (T : RepliedHistory) (k : ℕ) → k ≢ suc (length T) → is_frame (s ∷ T) k ≡ is_frame T k
+unfolding is_frame newest_answer
 is-frame-older s T k ne = rw (not_same k (suc (length T)) ne) refl
 
-pub parent-older : (s : Step) (T : Told) (f : ℕ) → f ≢ suc (length T) → parent_frame (s ∷ T) f ≡ parent_frame T f
-unfolding parent_frame newest
+pub parent-older : (s : Step) (T : RepliedHistory) (f : ℕ) → f ≢ suc (length T) → parent_frame (s ∷ T) f ≡ parent_frame T f
+unfolding parent_frame newest_answer
 parent-older s T f ne = rw (not_same f (suc (length T)) ne) refl
 
-pub current-stays : (s : Step) (T : Told) (d : ℕ) → IsQuiet s.event → d ≤ length T → is_current (s ∷ T) d ≡ is_current T d
+pub current-stays : (s : Step) (T : RepliedHistory) (d : ℕ) → IsQuiet s.event → d ≤ length T → is_current (s ∷ T) d ≡ is_current T d
 current-stays s T d q h = rw (current-older s T d h, q.ends_none (frames_above T d)) (and-true (is_current T d))
   where
     and-true : (b : Bool) → (b && true) ≡ b
@@ -58,16 +58,16 @@ pub first-within : (n d : ℕ) (ds : List ℕ) → d ≤ n → AllWithin n ds �
 first-within n d [] h all = h
 first-within n d (x ∷ ds) h all = all.0
 
-pub page-older : (s : Step) (T : Told) (d : ℕ) → d ≤ length T → page (s ∷ T) d ≡ page T d
+pub page-older : (s : Step) (T : RepliedHistory) (d : ℕ) → d ≤ length T → page (s ∷ T) d ≡ page T d
 unfolding page top_document
 page-older s T d h = rw (chain-older s T d h) (frame-older s T (first_or d (chain T d)) (first-within (length T) d (chain T d) h (chain-within T d)))
 
-link-older : (s : Step) (T : Told) (d : ℕ) → d ≤ length T → link (s ∷ T) d ≡ link T d
-unfolding link
+link-older : (s : Step) (T : RepliedHistory) (d : ℕ) → d ≤ length T → chain_document (s ∷ T) d ≡ chain_document T d
+unfolding chain_document
 link-older s T d h = rw (origin-older s T d h, declared-older s T d h, container-older s T d h) refl
 
 -- the policy of a document stays
-policy-older : (s : Step) (T : Told) (k : ℕ) (policy : Rows) → k ≤ length T → HasPolicy T k policy → HasPolicy (s ∷ T) k policy
+policy-older : (s : Step) (T : RepliedHistory) (k : ℕ) (policy : PolicyValue) → k ≤ length T → HasPolicy T k policy → HasPolicy (s ∷ T) k policy
 policy-older s T k policy h w = record {
   top = w.top;
   rest = w.rest;
@@ -77,7 +77,7 @@ policy-older s T k policy h w = record {
 }
 
 -- what is kept of a frame stays
-pub kept-older : (s : Step) (T : Told) (k : ℕ) (frame : Frame) → IsQuiet s.event → k ≤ length T → IsKept T k frame → IsKept (s ∷ T) k frame
+pub kept-older : (s : Step) (T : RepliedHistory) (k : ℕ) (frame : Frame) → IsQuiet s.event → k ≤ length T → IsKept T k frame → IsKept (s ∷ T) k frame
 kept-older s T k frame q h w =
     let ne : k ≢ suc (length T) = omega arith in
     let en : suc (length T) ≢ k = omega arith in
@@ -94,7 +94,7 @@ kept-older s T k frame q h w =
       policy = policy-older s T k frame.policy h w.policy;
     }
 
-pub kept-at-older : (s : Step) (T : Told) (k : ℕ) (o : Option Frame) → IsQuiet s.event → k ≤ length T → IsKeptAt T k o → IsKeptAt (s ∷ T) k o
+pub kept-at-older : (s : Step) (T : RepliedHistory) (k : ℕ) (o : Option Frame) → IsQuiet s.event → k ≤ length T → IsKeptAt T k o → IsKeptAt (s ∷ T) k o
 kept-at-older s T k None q h w = let ne : k ≢ suc (length T) = omega arith in is-frame-older s T k ne ∙ w
 kept-at-older s T k (Some frame) q h w = kept-older s T k frame q h w
 
@@ -108,14 +108,14 @@ then-same : {A B : Type 0} (f g : A → Option B) (o : Option A) → ((x : A) �
 then-same f g None same = refl
 then-same f g (Some x) same = same x refl
 
-pub live-older : (s : Step) (T : Told) (f : ℕ) → IsQuiet s.event → f ≤ length T → is_live (s ∷ T) f ≡ is_live T f
+pub live-older : (s : Step) (T : RepliedHistory) (f : ℕ) → IsQuiet s.event → f ≤ length T → is_live (s ∷ T) f ≡ is_live T f
 unfolding is_live document_in
 live-older s T f q h =
     let ne : suc (length T) ≢ f = omega arith in
-    rw (last-older s T f q ne) (ap is_some (then-same (λ d. when (is_current (s ∷ T) d) d) (λ d. when (is_current T d) d) (last_document T f)
-    (λ d e. ap (λ b. when b d) (current-stays s T d q (last-below T f d e)))))
+    rw (last-older s T f q ne) (ap is_some (then-same (λ d. some_if (is_current (s ∷ T) d) d) (λ d. some_if (is_current T d) d) (last_document T f)
+    (λ d e. ap (λ b. some_if b d) (current-stays s T d q (last-below T f d e)))))
 
-pub page-of-frame-older : (s : Step) (T : Told) (f : ℕ) → IsQuiet s.event → f ≤ length T → page_of_frame (s ∷ T) f ≡ page_of_frame T f
+pub page-of-frame-older : (s : Step) (T : RepliedHistory) (f : ℕ) → IsQuiet s.event → f ≤ length T → page_of_frame (s ∷ T) f ≡ page_of_frame T f
 unfolding page_of_frame
 page-of-frame-older s T f q h =
     let ne : suc (length T) ≢ f = omega arith in
@@ -131,16 +131,16 @@ within-append : (n : ℕ) (ds es : List ℕ) → AllWithin n ds → AllWithin n 
 within-append n [] es h k = k
 within-append n (d ∷ ds) es h k = (h.0, within-append n ds es h.1 k)
 
-pub frames-step : (s : Step) (T : Told) → frames_made (s ∷ T) ≡ option_to_list (when (makes_frame s.event) (suc (length T))) ++ frames_made T
-unfolding frames_made each_newest
+pub frames-step : (s : Step) (T : RepliedHistory) → frames_made (s ∷ T) ≡ option_to_list (some_if (makes_frame s.event) (suc (length T))) ++ frames_made T
+unfolding frames_made answers_newest_first
 frames-step s T = refl
 
-pub frames-within : (T : Told) → AllWithin (length T) (frames_made T)
-unfolding frames_made each_newest
+pub frames-within : (T : RepliedHistory) → AllWithin (length T) (frames_made T)
+unfolding frames_made answers_newest_first
 frames-within [] = tt
-frames-within (s ∷ T) = within-append (suc (length T)) (option_to_list (when (makes_frame s.event) (suc (length T)))) (frames_made T) (by_test (makes_frame s.event)) (within-more (length T) (frames_made T) (frames-within T))
+frames-within (s ∷ T) = within-append (suc (length T)) (option_to_list (some_if (makes_frame s.event) (suc (length T)))) (frames_made T) (by_test (makes_frame s.event)) (within-more (length T) (frames_made T) (frames-within T))
   where
-    by_test : (b : Bool) → AllWithin (suc (length T)) (option_to_list (when b (suc (length T))))
+    by_test : (b : Bool) → AllWithin (suc (length T)) (option_to_list (some_if b (suc (length T))))
     by_test true = (omega arith, tt)
     by_test false = tt
 

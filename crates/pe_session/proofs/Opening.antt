@@ -9,16 +9,16 @@ use Rattle.pe_allowlist.specs.AsciiWords.{pieces_at, ascii_words}
 use Rattle.pe_allowlist.specs.declared.container.DeclaredOrigin.{DeclaredOrigin}
 use Rattle.pe_features.specs.declared.feature.Feature.{Feature}
 use Rattle.pe_features.specs.Features.{default_of}
-use Rattle.pe_policy.specs.Links.{Link, last_link}
-use Rattle.pe_policy.specs.Failing.{Rows}
-use Rattle.pe_rules.specs.History.{Item, Step, Told, newest, since}
+use Rattle.pe_policy.specs.Links.{ChainDocument, end_of_chain}
+use Rattle.pe_policy.specs.PolicyValue.{PolicyValue}
+use Rattle.pe_rules.specs.History.{StepAnswer, Step, RepliedHistory, newest_answer, steps_since}
 use Rattle.pe_rules.specs.Attributes.{no_attributes}
 use Rattle.pe_rules.specs.Numbering.{is_frame, last_document}
-use Rattle.pe_rules.specs.Making.{Making, making_by, making, along, frame_of}
+use Rattle.pe_rules.specs.Making.{Making, making_by, making, fold_embedders, frame_of}
 use Rattle.pe_rules.specs.Embedders.{chain, first_or, top_document, page}
 use Rattle.pe_rules.specs.Current.{is_current}
 use Rattle.pe_rules.specs.Origins.{origin_of, sandbox_flag, origin_of_place, place_or_none, is_blank_kind}
-use Rattle.pe_rules.specs.Denials.{declared_lists, container_in, container_lists, link, links}
+use Rattle.pe_rules.specs.Denials.{declared_policy_in, container_in, container_policy_in, chain_document, chain_documents}
 use Rattle.pe_laws.proofs.Numbers.{is_same, is_within}
 use Rattle.pe_laws.proofs.Older.{links-older, chain-older, frame-older, chain-within}
 use Rattle.pe_session.specs.declared.frame.Frame.{Frame}
@@ -29,11 +29,11 @@ use Rattle.pe_session.specs.Saying.{page_event, child_event}
 use Rattle.pe_session.proofs.Older.{first-within}
 
 -- the making of a page's document
-abbrev pub page_making : List ℕ → Option (List ℕ) → Told → Making
+abbrev pub page_making : List ℕ → Option (List ℕ) → RepliedHistory → Making
 page_making url header T = record { frame = length T + 1; url = url; header = header; embedder = None; srcdoc = false; attributes = no_attributes }
 
 -- the making of an embedded document
-abbrev pub child_making : ℕ → List ℕ → Option (List ℕ) → Told → Making
+abbrev pub child_making : ℕ → List ℕ → Option (List ℕ) → RepliedHistory → Making
 child_making parent url header T = record {
   frame = length T + 1;
   url = url;
@@ -43,20 +43,20 @@ child_making parent url header T = record {
   attributes = record { src = Some url; srcdoc = false; allow = None; sandbox = None; fullscreen = false };
 }
 
-along-new : {A : Type 0} (other : A) (rule : Told → Making → Option A → A) (s : Step) (T : Told) (m : Making) → making_by s.event T ≡ Some m
-    → along other rule (s ∷ T) (suc (length T)) ≡ rule (s ∷ T) m (option_map (along other rule T) m.embedder)
-unfolding along
+along-new : {A : Type 0} (other : A) (rule : RepliedHistory → Making → Option A → A) (s : Step) (T : RepliedHistory) (m : Making) → making_by s.event T ≡ Some m
+    → fold_embedders other rule (s ∷ T) (suc (length T)) ≡ rule (s ∷ T) m (option_map (fold_embedders other rule T) m.embedder)
+unfolding fold_embedders
 along-new other rule s T m e = rw (is_same (suc (length T)), e) refl
 
-making-new : (s : Step) (T : Told) (m : Making) → making_by s.event T ≡ Some m → making (s ∷ T) (suc (length T)) ≡ Some m
-unfolding making newest
+making-new : (s : Step) (T : RepliedHistory) (m : Making) → making_by s.event T ≡ Some m → making (s ∷ T) (suc (length T)) ≡ Some m
+unfolding making newest_answer
 making-new s T m e = rw (is_same (suc (length T)), e) refl
 
-current-new : (s : Step) (T : Told) (m : Making) → making_by s.event T ≡ Some m → is_current (s ∷ T) (suc (length T)) ≡ true
-unfolding is_current since
+current-new : (s : Step) (T : RepliedHistory) (m : Making) → making_by s.event T ≡ Some m → is_current (s ∷ T) (suc (length T)) ≡ true
+unfolding is_current steps_since
 current-new s T m e = rw (making-new s T m e, is_within (suc (length T)) (suc (length T)) (omega arith)) refl
 
-frame-of-new : (s : Step) (T : Told) (m : Making) → making_by s.event T ≡ Some m → frame_of (s ∷ T) (suc (length T)) ≡ m.frame
+frame-of-new : (s : Step) (T : RepliedHistory) (m : Making) → making_by s.event T ≡ Some m → frame_of (s ∷ T) (suc (length T)) ≡ m.frame
 unfolding frame_of
 frame-of-new s T m e = rw (making-new s T m e) refl
 
@@ -70,35 +70,35 @@ unfolding container_policy list_by_pieces pieces_at ascii_words
 nothing-allowed embedder declared f = neither (is_some (default_of f)) _ refl
 
 -- the link of a document that was made last
-link-new : (s : Step) (T : Told) (m : Making) (o : Origin) → making_by s.event T ≡ Some m → origin_of (s ∷ T) (suc (length T)) ≡ o
-    → IsLinkOf (link (s ∷ T) (suc (length T))) (suc (length T)) o m.header
-unfolding link declared_lists
+link-new : (s : Step) (T : RepliedHistory) (m : Making) (o : Origin) → making_by s.event T ≡ Some m → origin_of (s ∷ T) (suc (length T)) ≡ o
+    → IsLinkOf (chain_document (s ∷ T) (suc (length T))) (suc (length T)) o m.header
+unfolding chain_document declared_policy_in
 link-new s T m o e is = record {
   numbered = refl;
   of_origin = is;
   declares = λ f. rw (making-new s T m e, is) refl;
 }
 
-container-child : (s : Step) (T : Told) (parent : ℕ) (url : List ℕ) (header : Option (List ℕ)) (f : Feature) → making_by s.event T ≡ Some (child_making parent url header T)
-    → last_document T parent ≡ Some parent → (link (s ∷ T) (suc (length T))).container f ≡ None
-unfolding link container_lists container_in
+container-child : (s : Step) (T : RepliedHistory) (parent : ℕ) (url : List ℕ) (header : Option (List ℕ)) (f : Feature) → making_by s.event T ≡ Some (child_making parent url header T)
+    → last_document T parent ≡ Some parent → (chain_document (s ∷ T) (suc (length T))).container f ≡ None
+unfolding chain_document container_policy_in container_in
 container-child s T parent url header f e last = rw (making-new s T (child_making parent url header T) e, last) (nothing-allowed _ _ f)
 
-last-append : (top : Link) (rest : List Link) (child : Link) → last_link top (rest ++ child ∷ []) ≡ child
+last-append : (top : ChainDocument) (rest : List ChainDocument) (child : ChainDocument) → end_of_chain top (rest ++ child ∷ []) ≡ child
 last-append top [] child = refl
 last-append top (next ∷ rest) child = last-append next rest child
 
 -- ---- a page
 
-page-made : (T : Told) (url : List ℕ) (header : Option (List ℕ)) (item : Item) → making_by (step_of (page_event url header) item).event T ≡ Some (page_making url header T)
+page-made : (T : RepliedHistory) (url : List ℕ) (header : Option (List ℕ)) (item : StepAnswer) → making_by (step_of (page_event url header) item).event T ≡ Some (page_making url header T)
 unfolding making_by
 page-made T url header item = refl
 
-chain-page : (T : Told) (url : List ℕ) (header : Option (List ℕ)) (item : Item) → chain (step_of (page_event url header) item ∷ T) (suc (length T)) ≡ suc (length T) ∷ []
+chain-page : (T : RepliedHistory) (url : List ℕ) (header : Option (List ℕ)) (item : StepAnswer) → chain (step_of (page_event url header) item ∷ T) (suc (length T)) ≡ suc (length T) ∷ []
 unfolding chain
 chain-page T url header item = along-new _ _ (step_of (page_event url header) item) T (page_making url header T) (page-made T url header item)
 
-flag-page : (T : Told) (url : List ℕ) (header : Option (List ℕ)) (item : Item) → sandbox_flag (step_of (page_event url header) item ∷ T) (suc (length T)) ≡ false
+flag-page : (T : RepliedHistory) (url : List ℕ) (header : Option (List ℕ)) (item : StepAnswer) → sandbox_flag (step_of (page_event url header) item ∷ T) (suc (length T)) ≡ false
 unfolding sandbox_flag
 flag-page T url header item = along-new _ _ (step_of (page_event url header) item) T (page_making url header T) (page-made T url header item)
 
@@ -106,30 +106,30 @@ either-way : {A : Type 0} (b : Bool) (x : A) → (if b then x else x) ≡ x
 either-way true x = refl
 either-way false x = refl
 
-pub origin-page : (T : Told) (url : List ℕ) (header : Option (List ℕ)) (item : Item) → origin_of (step_of (page_event url header) item ∷ T) (suc (length T)) ≡ origin_of_place (suc (length T)) (place_or_none url)
+pub origin-page : (T : RepliedHistory) (url : List ℕ) (header : Option (List ℕ)) (item : StepAnswer) → origin_of (step_of (page_event url header) item ∷ T) (suc (length T)) ≡ origin_of_place (suc (length T)) (place_or_none url)
 unfolding origin_of
 origin-page T url header item =
     along-new _ _ (step_of (page_event url header) item) T (page_making url header T) (page-made T url header item)
     ∙ rw (flag-page T url header item) (either-way (is_blank_kind (place_or_none url).kind) (origin_of_place (suc (length T)) (place_or_none url)))
 
-frame-page : (T : Told) (url : List ℕ) (header : Option (List ℕ)) (item : Item) → is_frame (step_of (page_event url header) item ∷ T) (suc (length T)) ≡ true
-unfolding is_frame newest
+frame-page : (T : RepliedHistory) (url : List ℕ) (header : Option (List ℕ)) (item : StepAnswer) → is_frame (step_of (page_event url header) item ∷ T) (suc (length T)) ≡ true
+unfolding is_frame newest_answer
 frame-page T url header item = rw (is_same (suc (length T))) refl
 
-last-page : (T : Told) (url : List ℕ) (header : Option (List ℕ)) (item : Item) → last_document (step_of (page_event url header) item ∷ T) (suc (length T)) ≡ Some (suc (length T))
-unfolding last_document newest
+last-page : (T : RepliedHistory) (url : List ℕ) (header : Option (List ℕ)) (item : StepAnswer) → last_document (step_of (page_event url header) item ∷ T) (suc (length T)) ≡ Some (suc (length T))
+unfolding last_document newest_answer
 last-page T url header item = rw (is_same (suc (length T))) refl
 
-top-page : (T : Told) (url : List ℕ) (header : Option (List ℕ)) (item : Item) → page (step_of (page_event url header) item ∷ T) (suc (length T)) ≡ length T + 1
+top-page : (T : RepliedHistory) (url : List ℕ) (header : Option (List ℕ)) (item : StepAnswer) → page (step_of (page_event url header) item ∷ T) (suc (length T)) ≡ length T + 1
 unfolding page top_document
 top-page T url header item = rw (chain-page T url header item) (frame-of-new (step_of (page_event url header) item) T (page_making url header T) (page-made T url header item))
 
-links-page : (T : Told) (url : List ℕ) (header : Option (List ℕ)) (item : Item)
-    → links (step_of (page_event url header) item ∷ T) (suc (length T)) ≡ link (step_of (page_event url header) item ∷ T) (suc (length T)) ∷ []
-unfolding links
+links-page : (T : RepliedHistory) (url : List ℕ) (header : Option (List ℕ)) (item : StepAnswer)
+    → chain_documents (step_of (page_event url header) item ∷ T) (suc (length T)) ≡ chain_document (step_of (page_event url header) item ∷ T) (suc (length T)) ∷ []
+unfolding chain_documents
 links-page T url header item = rw (chain-page T url header item) refl
 
-pub kept-page : (T : Told) (url : List ℕ) (header : Option (List ℕ)) (item : Item) (row : Frame) (p : Place) → place_or_none url ≡ p → IsPage (suc (length T)) p header row
+pub kept-page : (T : RepliedHistory) (url : List ℕ) (header : Option (List ℕ)) (item : StepAnswer) (row : Frame) (p : Place) → place_or_none url ≡ p → IsPage (suc (length T)) p header row
     → IsKept (step_of (page_event url header) item ∷ T) (suc (length T)) row
 kept-page T url header item row p place is =
     let s = step_of (page_event url header) item in
@@ -145,58 +145,58 @@ kept-page T url header item row p place is =
       origin = own;
       flag = flag-page T url header item;
       policy = record {
-        top = link (s ∷ T) (suc (length T));
+        top = chain_document (s ∷ T) (suc (length T));
         rest = [];
         above = links-page T url header item;
         last = refl;
-        stands = is.stands (link (s ∷ T) (suc (length T))) (link-new s T (page_making url header T) row.origin (page-made T url header item) own);
+        stands = is.stands (chain_document (s ∷ T) (suc (length T))) (link-new s T (page_making url header T) row.origin (page-made T url header item) own);
       };
     }
 
 -- ---- an embedded frame
 
-child-made : (T : Told) (parent : ℕ) (url : List ℕ) (header : Option (List ℕ)) (item : Item) → making_by (step_of (child_event parent url header) item).event T ≡ Some (child_making parent url header T)
+child-made : (T : RepliedHistory) (parent : ℕ) (url : List ℕ) (header : Option (List ℕ)) (item : StepAnswer) → making_by (step_of (child_event parent url header) item).event T ≡ Some (child_making parent url header T)
 unfolding making_by
 child-made T parent url header item = refl
 
-chain-child : (T : Told) (parent : ℕ) (url : List ℕ) (header : Option (List ℕ)) (item : Item) → last_document T parent ≡ Some parent
+chain-child : (T : RepliedHistory) (parent : ℕ) (url : List ℕ) (header : Option (List ℕ)) (item : StepAnswer) → last_document T parent ≡ Some parent
     → chain (step_of (child_event parent url header) item ∷ T) (suc (length T)) ≡ chain T parent ++ suc (length T) ∷ []
 unfolding chain
 chain-child T parent url header item last =
     along-new _ _ (step_of (child_event parent url header) item) T (child_making parent url header T) (child-made T parent url header item) ∙ rw last refl
 
-flag-child : (T : Told) (parent : ℕ) (url : List ℕ) (header : Option (List ℕ)) (item : Item) → last_document T parent ≡ Some parent → sandbox_flag T parent ≡ false
+flag-child : (T : RepliedHistory) (parent : ℕ) (url : List ℕ) (header : Option (List ℕ)) (item : StepAnswer) → last_document T parent ≡ Some parent → sandbox_flag T parent ≡ false
     → sandbox_flag (step_of (child_event parent url header) item ∷ T) (suc (length T)) ≡ false
 unfolding sandbox_flag
 flag-child T parent url header item last flag =
     along-new _ _ (step_of (child_event parent url header) item) T (child_making parent url header T) (child-made T parent url header item) ∙ rw (last, flag) refl
 
-pub origin-child : (T : Told) (parent : ℕ) (url : List ℕ) (header : Option (List ℕ)) (item : Item) → last_document T parent ≡ Some parent → sandbox_flag T parent ≡ false
+pub origin-child : (T : RepliedHistory) (parent : ℕ) (url : List ℕ) (header : Option (List ℕ)) (item : StepAnswer) → last_document T parent ≡ Some parent → sandbox_flag T parent ≡ false
     → origin_of (step_of (child_event parent url header) item ∷ T) (suc (length T)) ≡ child_origin (origin_of T parent) (suc (length T)) (place_or_none url)
 unfolding origin_of
 origin-child T parent url header item last flag =
     along-new _ _ (step_of (child_event parent url header) item) T (child_making parent url header T) (child-made T parent url header item) ∙ rw (flag-child T parent url header item last flag, last) refl
 
-frame-child : (T : Told) (parent : ℕ) (url : List ℕ) (header : Option (List ℕ)) (item : Item) → is_frame (step_of (child_event parent url header) item ∷ T) (suc (length T)) ≡ true
-unfolding is_frame newest
+frame-child : (T : RepliedHistory) (parent : ℕ) (url : List ℕ) (header : Option (List ℕ)) (item : StepAnswer) → is_frame (step_of (child_event parent url header) item ∷ T) (suc (length T)) ≡ true
+unfolding is_frame newest_answer
 frame-child T parent url header item = rw (is_same (suc (length T))) refl
 
-last-child : (T : Told) (parent : ℕ) (url : List ℕ) (header : Option (List ℕ)) (item : Item) → last_document (step_of (child_event parent url header) item ∷ T) (suc (length T)) ≡ Some (suc (length T))
-unfolding last_document newest
+last-child : (T : RepliedHistory) (parent : ℕ) (url : List ℕ) (header : Option (List ℕ)) (item : StepAnswer) → last_document (step_of (child_event parent url header) item ∷ T) (suc (length T)) ≡ Some (suc (length T))
+unfolding last_document newest_answer
 last-child T parent url header item = rw (is_same (suc (length T))) refl
 
 first-append : (xs ys : List ℕ) (d e : ℕ) → 1 ≤ length xs → first_or d (xs ++ ys) ≡ first_or e xs
 first-append [] ys d e some = absurd (omega arith)
 first-append (x ∷ xs) ys d e some = refl
 
-length-links : (T : Told) (d : ℕ) → length (links T d) ≡ length (chain T d)
-unfolding links
-length-links T d = length-map (chain T d) (link T)
+length-links : (T : RepliedHistory) (d : ℕ) → length (chain_documents T d) ≡ length (chain T d)
+unfolding chain_documents
+length-links T d = length-map (chain T d) (chain_document T)
 
-some-chain : (T : Told) (k : ℕ) (row : Frame) → IsKept T k row → 1 ≤ length (chain T k)
+some-chain : (T : RepliedHistory) (k : ℕ) (row : Frame) → IsKept T k row → 1 ≤ length (chain T k)
 some-chain T k row w = omega (arith, length-links T k, ap length w.policy.above)
 
-top-child : (T : Told) (parent : ℕ) (url : List ℕ) (header : Option (List ℕ)) (item : Item) (row : Frame) → IsKept T parent row → parent ≤ length T
+top-child : (T : RepliedHistory) (parent : ℕ) (url : List ℕ) (header : Option (List ℕ)) (item : StepAnswer) (row : Frame) → IsKept T parent row → parent ≤ length T
     → page (step_of (child_event parent url header) item ∷ T) (suc (length T)) ≡ page T parent
 unfolding page top_document
 top-child T parent url header item row w h =
@@ -204,32 +204,32 @@ top-child T parent url header item row w h =
     rw (chain-child T parent url header item w.document, first-append (chain T parent) (suc (length T) ∷ []) (suc (length T)) parent some)
     (frame-older (step_of (child_event parent url header) item) T (first_or parent (chain T parent)) (first-within (length T) parent (chain T parent) h (chain-within T parent)))
 
-of-chain : (U : Told) (k : ℕ) (ds : List ℕ) → chain U k ≡ ds ++ k ∷ [] → links U k ≡ map (link U) ds ++ link U k ∷ []
-unfolding links
-of-chain U k ds e = rw e (map-append (link U) ds (k ∷ []))
+of-chain : (U : RepliedHistory) (k : ℕ) (ds : List ℕ) → chain U k ≡ ds ++ k ∷ [] → chain_documents U k ≡ map (chain_document U) ds ++ chain_document U k ∷ []
+unfolding chain_documents
+of-chain U k ds e = rw e (map-append (chain_document U) ds (k ∷ []))
 
-of-older : (U : Told) (k : ℕ) (ds : List ℕ) → chain U k ≡ ds → links U k ≡ map (link U) ds
-unfolding links
+of-older : (U : RepliedHistory) (k : ℕ) (ds : List ℕ) → chain U k ≡ ds → chain_documents U k ≡ map (chain_document U) ds
+unfolding chain_documents
 of-older U k ds e = rw e refl
 
-links-child : (T : Told) (parent : ℕ) (url : List ℕ) (header : Option (List ℕ)) (item : Item) (row : Frame) → IsKept T parent row → parent ≤ length T
-    → links (step_of (child_event parent url header) item ∷ T) (suc (length T)) ≡ links T parent ++ link (step_of (child_event parent url header) item ∷ T) (suc (length T)) ∷ []
+links-child : (T : RepliedHistory) (parent : ℕ) (url : List ℕ) (header : Option (List ℕ)) (item : StepAnswer) (row : Frame) → IsKept T parent row → parent ≤ length T
+    → chain_documents (step_of (child_event parent url header) item ∷ T) (suc (length T)) ≡ chain_documents T parent ++ chain_document (step_of (child_event parent url header) item ∷ T) (suc (length T)) ∷ []
 links-child T parent url header item row w h =
     let s = step_of (child_event parent url header) item in
     of-chain (s ∷ T) (suc (length T)) (chain T parent) (chain-child T parent url header item w.document)
-    ∙ ap (λ l. l ++ link (s ∷ T) (suc (length T)) ∷ []) (sym (of-older (s ∷ T) parent (chain T parent) (chain-older s T parent h)) ∙ links-older s T parent h)
+    ∙ ap (λ l. l ++ chain_document (s ∷ T) (suc (length T)) ∷ []) (sym (of-older (s ∷ T) parent (chain T parent) (chain-older s T parent h)) ∙ links-older s T parent h)
 
-origin-last : (T : Told) (k : ℕ) (row : Frame) (w : IsKept T k row) → (last_link w.policy.top w.policy.rest).origin ≡ row.origin
-unfolding link
-origin-last T k row w = ap (λ (l : Link). l.origin) w.policy.last ∙ w.origin
+origin-last : (T : RepliedHistory) (k : ℕ) (row : Frame) (w : IsKept T k row) → (end_of_chain w.policy.top w.policy.rest).origin ≡ row.origin
+unfolding chain_document
+origin-last T k row w = ap (λ (l : ChainDocument). l.origin) w.policy.last ∙ w.origin
 
 -- the policy of an embedded document
-policy-child : (T : Told) (parent : ℕ) (url : List ℕ) (header : Option (List ℕ)) (item : Item) (row child : Frame) (p : Place) → IsKept T parent row → parent ≤ length T
+policy-child : (T : RepliedHistory) (parent : ℕ) (url : List ℕ) (header : Option (List ℕ)) (item : StepAnswer) (row child : Frame) (p : Place) → IsKept T parent row → parent ≤ length T
     → IsChild row (suc (length T)) p header child → origin_of (step_of (child_event parent url header) item ∷ T) (suc (length T)) ≡ child.origin
     → HasPolicy (step_of (child_event parent url header) item ∷ T) (suc (length T)) child.policy
 policy-child T parent url header item row child p w h is own =
     let s = step_of (child_event parent url header) item in
-    let l = link (s ∷ T) (suc (length T)) in
+    let l = chain_document (s ∷ T) (suc (length T)) in
     record {
       top = w.policy.top;
       rest = w.policy.rest ++ l ∷ [];
@@ -240,7 +240,7 @@ policy-child T parent url header item row child p w h is own =
           (λ f. container-child s T parent url header f (child-made T parent url header item) w.document);
     }
 
-pub kept-child : (T : Told) (parent : ℕ) (url : List ℕ) (header : Option (List ℕ)) (item : Item) (row child : Frame) (p : Place) → IsKept T parent row → parent ≤ length T → row.depth < 64
+pub kept-child : (T : RepliedHistory) (parent : ℕ) (url : List ℕ) (header : Option (List ℕ)) (item : StepAnswer) (row child : Frame) (p : Place) → IsKept T parent row → parent ≤ length T → row.depth < 64
     → place_or_none url ≡ p → IsChild row (suc (length T)) p header child → IsKept (step_of (child_event parent url header) item ∷ T) (suc (length T)) child
 kept-child T parent url header item row child p w h shallow place is =
     let s = step_of (child_event parent url header) item in

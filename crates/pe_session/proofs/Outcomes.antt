@@ -3,18 +3,18 @@ use Rattle.std.proofs.Common.{◌≡◌, ℕ, ◌+◌, ◌-◌, ◌≤◌, List,
 use Rattle.std.proofs.lemmas.List.{take-append-le, map-append, take-take}
 use Rattle.std.proofs.Math.Seq.{take-append-add}
 use Rattle.std.specs.Io.KnownBytes.{IsAtEnd}
-use Rattle.pe_lines.specs.Lines.{told_lines, told_ended_lines, ended_lines}
+use Rattle.pe_lines.specs.Lines.{lines_or_too_long, ended_lines_or_too_long, ended_lines}
 use Rattle.pe_output.specs.Built.{reading_built, built_text, built_ended_text}
 use Rattle.pe_output.specs.OutputText.{text_from}
 use Rattle.pe_session.specs.declared.session.Session.{Session}
-use Rattle.pe_session.specs.Session.{history_after_lines, readings, IsAt, Adds, AddsLast}
+use Rattle.pe_session.specs.Session.{history_after_lines, readings, HasTaken, Adds, AddsLast}
 use Rattle.pe_session.specs.Outcome.{IsPrefix, IsCutShort}
 use Rattle.pe_session.proofs.Texts.{text-append}
 
 -- lines that a line feed ended stay, whatever comes behind them, and are the first of all lines
 pub record LinesStay : Type 0 where
-  pub ended : (bytes : List ℕ) → (more : List ℕ) → ((added : List (Option (List ℕ))) × (told_ended_lines (bytes ++ more) ≡ told_ended_lines bytes ++ added))
-  pub all : (bytes : List ℕ) → ((added : List (Option (List ℕ))) × (told_lines bytes ≡ told_ended_lines bytes ++ added))
+  pub ended : (bytes : List ℕ) → (more : List ℕ) → ((added : List (Option (List ℕ))) × (ended_lines_or_too_long (bytes ++ more) ≡ ended_lines_or_too_long bytes ++ added))
+  pub all : (bytes : List ℕ) → ((added : List (Option (List ℕ))) × (lines_or_too_long bytes ≡ ended_lines_or_too_long bytes ++ added))
 
 pub prefix-trans : (a b c : List ℕ) → IsPrefix a b → IsPrefix b c → IsPrefix a c
 prefix-trans a b c (r, e) (s, f) = (r ++ s, f ∙ ap (λ l. l ++ s) e ∙ append_assoc a r s)
@@ -30,11 +30,11 @@ text-front duration before added all e = (
 -- the text of the lines that ended is a front of the same of more bytes, and of all lines of more bytes
 pub ended-grows : LinesStay → (duration : ℕ) (xs ys : List ℕ) → IsPrefix (built_ended_text duration xs) (built_ended_text duration (xs ++ ys))
 unfolding built_ended_text
-ended-grows stay duration xs ys = let (added, e) = stay.ended xs ys in text-front duration (told_ended_lines xs) added (told_ended_lines (xs ++ ys)) e
+ended-grows stay duration xs ys = let (added, e) = stay.ended xs ys in text-front duration (ended_lines_or_too_long xs) added (ended_lines_or_too_long (xs ++ ys)) e
 
 pub all-from-ended : LinesStay → (duration : ℕ) (xs : List ℕ) → IsPrefix (built_ended_text duration xs) (built_text duration xs)
 unfolding built_ended_text built_text
-all-from-ended stay duration xs = let (added, e) = stay.all xs in text-front duration (told_ended_lines xs) added (told_lines xs) e
+all-from-ended stay duration xs = let (added, e) = stay.all xs in text-front duration (ended_lines_or_too_long xs) added (lines_or_too_long xs) e
 
 pub all-grows : LinesStay → (duration : ℕ) (xs ys : List ℕ) → IsPrefix (built_ended_text duration xs) (built_text duration (xs ++ ys))
 all-grows stay duration xs ys = prefix-trans _ _ _ (ended-grows stay duration xs ys) (all-from-ended stay duration (xs ++ ys))
@@ -111,10 +111,10 @@ pub none-given : (taken room : List ℕ) (count : ℕ) → count ≡ 0 → taken
 none-given taken room count e = rw e (append-nil taken)
 
 -- the number of the next line is at most one more than the bytes of the lines before it
-pub number-small : (duration : ℕ) (session : Session) (taken : List ℕ) → IsAt duration session taken → session.number + length session.cutter.bytes ≤ 1 + length taken
+pub number-small : (duration : ℕ) (session : Session) (taken : List ℕ) → HasTaken duration session taken → session.number + length session.cutter.bytes ≤ 1 + length taken
 number-small duration session taken h = omega (arith, h.number, h.cuts.fewer)
 
 -- of nothing, nothing is written
 pub nothing-yet : (duration : ℕ) → built_ended_text duration [] ≡ []
-unfolding built_ended_text told_ended_lines ended_lines text_from
+unfolding built_ended_text ended_lines_or_too_long ended_lines text_from
 nothing-yet duration = refl

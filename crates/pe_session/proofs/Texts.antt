@@ -8,7 +8,7 @@ use Rattle.pe_output.specs.Built.{reading_built}
 use Rattle.pe_output.specs.OutputText.{line_text, history_after_line, is_refused, text_from, refuses_from}
 use Rattle.pe_session.specs.declared.events.Events.{Events}
 use Rattle.pe_session.specs.Judging.{Stands, Judged}
-use Rattle.pe_session.specs.Session.{history_after_lines, readings, Went}
+use Rattle.pe_session.specs.Session.{history_after_lines, readings, HasJudged}
 
 pub text-append : (duration n m : ℕ) (H : History) (ls more : List Reading) → m ≡ n + length ls
     → text_from duration n H (ls ++ more) ≡ text_from duration n H ls ++ text_from duration m (history_after_lines duration H ls) more
@@ -61,7 +61,7 @@ pub length-readings : (lines : List (Option (List ℕ))) → length (readings li
 length-readings [] = refl
 length-readings (l ∷ ls) = ap suc (length-readings ls)
 
-pub Went-none : (duration n : ℕ) (events : Events) (H : History) (out : List ℕ) (refused : Bool) → Stands duration events H → Went duration events n H out out refused refused []
+pub Went-none : (duration n : ℕ) (events : Events) (H : History) (out : List ℕ) (refused : Bool) → Stands duration events H → HasJudged duration events n H out out refused refused []
 Went-none duration n events H out refused h = record {
   stands = h;
   text = sym (ap (λ t. out ++ t) (text-none duration n H) ∙ append-nil out);
@@ -70,9 +70,9 @@ Went-none duration n events H out refused h = record {
 
 -- one line on
 pub Went-more : (duration n m : ℕ) (events next : Events) (H : History) (old mid new : List ℕ) (was mid_refused now refused : Bool) (done : List (Option (List ℕ))) (line : Option (List ℕ))
-    → m ≡ n + length done → Went duration events n H old mid was mid_refused done
+    → m ≡ n + length done → HasJudged duration events n H old mid was mid_refused done
     → Judged duration next m (history_after_lines duration H (readings done)) line mid new refused
-    → now ≡ (mid_refused || refused) → Went duration next n H old new was now (done ++ line ∷ [])
+    → now ≡ (mid_refused || refused) → HasJudged duration next n H old new was now (done ++ line ∷ [])
 Went-more duration n m events next H old mid new was mid_refused now refused done line e w j is =
     let G = history_after_lines duration H (readings done) in
     let r = reading_built line in

@@ -6,8 +6,8 @@ use Rattle.pe_features.specs.declared.feature.Feature.{Feature}
 use Rattle.pe_origin.specs.declared.origin.Origin.{Origin}
 use Rattle.pe_origin.specs.declared.place.Place.{Place}
 use Rattle.pe_header.specs.DeclaredPolicy.{declared_policy}
-use Rattle.pe_policy.specs.Links.{Link, last_link}
-use Rattle.pe_policy.specs.Failing.{StandsFor}
+use Rattle.pe_policy.specs.Links.{ChainDocument, end_of_chain}
+use Rattle.pe_policy.specs.PolicyValue.{IsPolicyOf}
 use Rattle.pe_rules.specs.Origins.{origin_of_place, is_blank_kind}
 use Rattle.pe_session.specs.declared.frame.Frame.{Frame}
 
@@ -16,7 +16,7 @@ abbrev pub child_origin : Origin → ℕ → Place → Origin
 child_origin embedder number place = if is_blank_kind place.kind then embedder else origin_of_place number place
 
 -- the link is of this document, with this origin and header
-pub record IsLinkOf (link : Link) (document : ℕ) (origin : Origin) (header : Option (List ℕ)) : Type 0 where
+pub record IsLinkOf (link : ChainDocument) (document : ℕ) (origin : Origin) (header : Option (List ℕ)) : Type 0 where
   pub numbered : link.document ≡ document
   pub of_origin : link.origin ≡ origin
   pub declares : (feature : Feature) → link.declared feature ≡ declared_policy header origin feature
@@ -26,12 +26,12 @@ pub record IsPage (number : ℕ) (place : Place) (header : Option (List ℕ)) (f
   pub page : frame.page + 1 ≡ number
   pub depth : frame.depth ≡ 1
   pub origin : frame.origin ≡ origin_of_place number place
-  pub stands : (top : Link) → IsLinkOf top number frame.origin header → StandsFor frame.policy top []
+  pub stands : (top : ChainDocument) → IsLinkOf top number frame.origin header → IsPolicyOf frame.policy top []
 
 -- the frame that the event of this number embeds in another's document, without an `allow` attribute
 pub record IsChild (embedder : Frame) (number : ℕ) (place : Place) (header : Option (List ℕ)) (frame : Frame) : Type 0 where
   pub page : frame.page ≡ embedder.page
   pub depth : frame.depth ≡ embedder.depth + 1
   pub origin : frame.origin ≡ child_origin embedder.origin number place
-  pub stands : (top : Link) (rest : List Link) (child : Link) → StandsFor embedder.policy top rest → (last_link top rest).origin ≡ embedder.origin
-      → IsLinkOf child number frame.origin header → ((feature : Feature) → child.container feature ≡ None) → StandsFor frame.policy top (rest ++ child ∷ [])
+  pub stands : (top : ChainDocument) (rest : List ChainDocument) (child : ChainDocument) → IsPolicyOf embedder.policy top rest → (end_of_chain top rest).origin ≡ embedder.origin
+      → IsLinkOf child number frame.origin header → ((feature : Feature) → child.container feature ≡ None) → IsPolicyOf frame.policy top (rest ++ child ∷ [])

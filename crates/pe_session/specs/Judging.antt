@@ -3,7 +3,7 @@
 -- What is kept stands for a history where it says of each position what the definitions over that history say.
 use Rattle.std.specs.Prelude.{◌≡◌, ℕ, Bool, List, ◌++◌, Option}
 use Rattle.pe_rules.specs.History.{History}
-use Rattle.pe_rules.specs.Replies.{told}
+use Rattle.pe_rules.specs.Replies.{replied}
 use Rattle.pe_output.specs.Built.{reading_built}
 use Rattle.pe_output.specs.OutputText.{line_text, history_after_line, is_refused}
 use Rattle.pe_session.specs.Keeping.{Keeps}
@@ -11,7 +11,7 @@ use Rattle.pe_session.specs.declared.events.Events.{Events}
 
 -- what is kept stands for the history
 abbrev pub Stands : ℕ → Events → History → Type 0
-Stands duration events H = Keeps events (told duration H)
+Stands duration events H = Keeps events (replied duration H)
 
 -- a line was judged after a history: what is kept goes on, the text is put behind, and it is said whether the line is refused
 pub record Judged (duration : ℕ) (events : Events) (number : ℕ) (H : History) (line : Option (List ℕ)) (old new : List ℕ) (refused : Bool) : Type 0 where

@@ -2,29 +2,29 @@
 -- This project's own.
 -- Each frame of these histories is live and has the one document that was made with it, which has the frame's number.
 use Rattle.std.specs.Prelude.{◌≡◌, ℕ, zero, suc, ◌+◌, ◌≤◌, true, false, List, [], ◌∷◌, length, get_or, Option, Some, None, option_to_list}
-use Rattle.pe_policy.specs.Failing.{Rows, StandsFor}
-use Rattle.pe_policy.specs.Links.{Link, last_link}
-use Rattle.pe_rules.specs.History.{Told, each, clock}
+use Rattle.pe_policy.specs.PolicyValue.{PolicyValue, IsPolicyOf}
+use Rattle.pe_policy.specs.Links.{ChainDocument, end_of_chain}
+use Rattle.pe_rules.specs.History.{RepliedHistory, all_answers, clock}
 use Rattle.pe_rules.specs.Numbering.{is_frame, last_document}
 use Rattle.pe_rules.specs.Embedders.{chain, page}
 use Rattle.pe_rules.specs.Current.{is_current}
 use Rattle.pe_rules.specs.Origins.{origin_of, sandbox_flag}
-use Rattle.pe_rules.specs.Denials.{link, links}
+use Rattle.pe_rules.specs.Denials.{chain_document, chain_documents}
 use Rattle.pe_rules.specs.Statuses.{Status, status_by}
 use Rattle.pe_rules.specs.Causes.{live_pages, live_frames}
 use Rattle.pe_session.specs.declared.frame.Frame.{Frame}
 use Rattle.pe_session.specs.declared.events.Events.{Events}
 
 -- the policy is that of the document, which stands last on its chain
-pub record HasPolicy (T : Told) (k : ℕ) (policy : Rows) : Type 0 where
-  pub top : Link
-  pub rest : List Link
-  pub above : links T k ≡ top ∷ rest
-  pub last : last_link top rest ≡ link T k
-  pub stands : StandsFor policy top rest
+pub record HasPolicy (T : RepliedHistory) (k : ℕ) (policy : PolicyValue) : Type 0 where
+  pub top : ChainDocument
+  pub rest : List ChainDocument
+  pub above : chain_documents T k ≡ top ∷ rest
+  pub last : end_of_chain top rest ≡ chain_document T k
+  pub stands : IsPolicyOf policy top rest
 
 -- what is kept of the frame of this number
-pub record IsKept (T : Told) (k : ℕ) (frame : Frame) : Type 0 where
+pub record IsKept (T : RepliedHistory) (k : ℕ) (frame : Frame) : Type 0 where
   pub made : is_frame T k ≡ true
   pub document : last_document T k ≡ Some k
   pub current : is_current T k ≡ true
@@ -37,7 +37,7 @@ pub record IsKept (T : Told) (k : ℕ) (frame : Frame) : Type 0 where
   pub policy : HasPolicy T k frame.policy
 
 -- what is kept of a position: a frame, or that it makes none
-abbrev pub IsKeptAt : Told → ℕ → Option Frame → Type 0
+abbrev pub IsKeptAt : RepliedHistory → ℕ → Option Frame → Type 0
 IsKeptAt T k None = is_frame T k ≡ false
 IsKeptAt T k (Some frame) = IsKept T k frame
 
@@ -47,11 +47,11 @@ frame_numbered frames zero = None
 frame_numbered frames (suc i) = get_or frames i None
 
 -- the statuses that the steps made
-abbrev pub statuses_made : Told → List Status
-statuses_made T = each (λ s B. option_to_list (status_by s.event B (length (s ∷ B)))) T
+abbrev pub statuses_made : RepliedHistory → List Status
+statuses_made T = all_answers (λ s B. option_to_list (status_by s.event B (length (s ∷ B)))) T
 
 -- frames, sizes of pages and a count of pages are those of the steps, which all happened at time 0 and made no status
-pub record AreKept (frames : List (Option Frame)) (sizes : List ℕ) (pages : ℕ) (T : Told) : Type 0 where
+pub record AreKept (frames : List (Option Frame)) (sizes : List ℕ) (pages : ℕ) (T : RepliedHistory) : Type 0 where
   pub count : length frames ≡ length T
   pub few : length T ≤ 1000000
   pub sized : length sizes ≡ length T
@@ -64,5 +64,5 @@ pub record AreKept (frames : List (Option Frame)) (sizes : List ℕ) (pages : �
   pub statuses : statuses_made T ≡ []
 
 -- what is kept of the steps
-abbrev pub Keeps : Events → Told → Type 0
+abbrev pub Keeps : Events → RepliedHistory → Type 0
 Keeps events T = AreKept events.frames events.sizes.items events.pages T

@@ -3,7 +3,7 @@
 -- A session has judged each line that is whole in the bytes taken, and holds what follows.
 use Rattle.std.specs.Prelude.{◌≡◌, ℕ, ◌+◌, ◌||◌, Bool, false, List, [], ◌∷◌, ◌++◌, length, map, Option}
 use Rattle.pe_lines.specs.Cutting.{Cuts}
-use Rattle.pe_lines.specs.Lines.{told_ended_lines}
+use Rattle.pe_lines.specs.Lines.{ended_lines_or_too_long}
 use Rattle.pe_rules.specs.History.{History}
 use Rattle.pe_script.specs.Reading.{Reading}
 use Rattle.pe_output.specs.Built.{reading_built, built_text, built_ended_text}
@@ -22,19 +22,19 @@ abbrev pub readings : List (Option (List ℕ)) → List Reading
 readings lines = map reading_built lines
 
 -- these lines were judged, the first of which has this number
-pub record Went (duration : ℕ) (events : Events) (number : ℕ) (H : History) (old new : List ℕ) (was refused : Bool) (done : List (Option (List ℕ))) : Type 0 where
+pub record HasJudged (duration : ℕ) (events : Events) (number : ℕ) (H : History) (old new : List ℕ) (was refused : Bool) (done : List (Option (List ℕ))) : Type 0 where
   pub stands : Stands duration events (history_after_lines duration H (readings done))
   pub text : new ≡ old ++ text_from duration number H (readings done)
   pub refused_is : refused ≡ (was || refuses_from duration H (readings done))
 
 -- the session has judged each line that is whole in the bytes taken, and its text is written
-pub record IsAt (duration : ℕ) (session : Session) (taken : List ℕ) : Type 0 where
-  pub cuts : Cuts taken (told_ended_lines taken) session.cutter.bytes
-  pub none : told_ended_lines session.cutter.bytes ≡ []
+pub record HasTaken (duration : ℕ) (session : Session) (taken : List ℕ) : Type 0 where
+  pub cuts : Cuts taken (ended_lines_or_too_long taken) session.cutter.bytes
+  pub none : ended_lines_or_too_long session.cutter.bytes ≡ []
   pub open_still : session.cutter.finished ≡ false
-  pub number : session.number ≡ 1 + length (told_ended_lines taken)
-  pub stands : Stands duration session.events (history_after_lines duration [] (readings (told_ended_lines taken)))
-  pub refused_is : session.refused ≡ refuses_from duration [] (readings (told_ended_lines taken))
+  pub number : session.number ≡ 1 + length (ended_lines_or_too_long taken)
+  pub stands : Stands duration session.events (history_after_lines duration [] (readings (ended_lines_or_too_long taken)))
+  pub refused_is : session.refused ≡ refuses_from duration [] (readings (ended_lines_or_too_long taken))
   pub empty : session.out.items ≡ []
 
 -- the text of the lines that a piece ended

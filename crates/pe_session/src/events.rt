@@ -69,7 +69,7 @@ fn controlled(name: &[u8]) -> Option<Feature>
 impl Events {
     ghost use Rattle.std.specs.Prelude.{[], ◌∷◌};
     ghost use Rattle.pe_events.specs.declared.event.Event.TheVariants as event;
-    ghost use Rattle.pe_rules.specs.History.{Told};
+    ghost use Rattle.pe_rules.specs.History.{RepliedHistory};
     ghost use Rattle.pe_session.specs.Keeping.{Keeps};
     ghost use Rattle.pe_session.specs.Replying.{IsReply};
     ghost use Rattle.pe_session.specs.Saying.{page_event, child_event};
@@ -121,7 +121,7 @@ impl Events {
 
     /// `open URL` with this header at time 0.
     pub fn open(&mut self, url: &[u8], header: Option<&[u8]>) -> Result<Reply, AllocError>
-        ensures { (duration : ℕ) (T : Told) → Keeps self.old T
+        ensures { (duration : ℕ) (T : RepliedHistory) → Keeps self.old T
             → IfOk result (IsReply duration T (page_event url.now (option_copied header.entry)) self.new) }
     {
         let Some(number) = self.next_number() else {
@@ -153,7 +153,7 @@ impl Events {
         url: &[u8],
         header: Option<&[u8]>,
     ) -> Result<Reply, AllocError>
-        ensures { (duration : ℕ) (T : Told) → Keeps self.old T
+        ensures { (duration : ℕ) (T : RepliedHistory) → Keeps self.old T
             → IfOk result (IsReply duration T (child_event parent url.now (option_copied header.entry)) self.new) }
     {
         let Some(number) = self.next_number() else {
@@ -190,7 +190,7 @@ impl Events {
 
     /// `policy F NAME` at time 0.
     pub fn policy(&mut self, number: u32, name: &[u8]) -> Result<Reply, AllocError>
-        ensures { (duration : ℕ) (T : Told) → Keeps self.old T → IfOk result (IsReply duration T (event.PolicyOf number name.now) self.new) }
+        ensures { (duration : ℕ) (T : RepliedHistory) → Keeps self.old T → IfOk result (IsReply duration T (event.PolicyOf number name.now) self.new) }
     {
         let Some(_) = self.next_number() else {
             return Ok(Reply::Refused {

@@ -2,8 +2,8 @@
 ghost use Rattle.std.specs.Prelude.{◌≡◌, ◌+◌, ◌-◌, ◌<◌, ◌≤◌, ◌^◌, IfOk, None, [], ◌∷◌, ◌++◌, List};
 ghost use Rattle.std.specs.Option.{option_copied};
 ghost use Rattle.pe_features.specs.declared.feature.Feature.{Feature};
-ghost use Rattle.pe_policy.specs.Links.{Link, last_link};
-ghost use Rattle.pe_policy.specs.Failing.{StandsFor};
+ghost use Rattle.pe_policy.specs.Links.{ChainDocument, end_of_chain};
+ghost use Rattle.pe_policy.specs.PolicyValue.{IsPolicyOf};
 ghost use Rattle.pe_rules.specs.Origins.{origin_of_place, is_blank_kind};
 ghost use Rattle.pe_session.specs.Framing.{child_origin, IsLinkOf, IsPage, IsChild};
 
@@ -58,7 +58,7 @@ fn top_policy(
 ) -> Result<Policy, AllocError>
     requires low { 1 ≤ number }
     requires high { number ≤ EVENT_LIMIT }
-    ensures { IfOk result (λ policy. (top : Link) → IsLinkOf top number origin.now (option_copied header.entry) → StandsFor policy top []) }
+    ensures { IfOk result (λ policy. (top : ChainDocument) → IsLinkOf top number origin.now (option_copied header.entry) → IsPolicyOf policy top []) }
 {
     let declared = read_header(alloc, header, origin)?;
     Ok(Policy::make_top(declared, origin, DocNo::of(number)))
@@ -109,9 +109,9 @@ impl Frame {
     ) -> Result<Policy, AllocError>
         requires low { 1 ≤ number }
         requires high { number ≤ EVENT_LIMIT }
-        ensures { IfOk result (λ policy. (top : Link) (rest : List Link) (child : Link) → StandsFor self.now.policy top rest
-            → (last_link top rest).origin ≡ self.now.origin → IsLinkOf child number origin.now (option_copied header.entry)
-            → ((f : Feature) → child.container f ≡ None) → StandsFor policy top (rest ++ child ∷ [])) }
+        ensures { IfOk result (λ policy. (top : ChainDocument) (rest : List ChainDocument) (child : ChainDocument) → IsPolicyOf self.now.policy top rest
+            → (end_of_chain top rest).origin ≡ self.now.origin → IsLinkOf child number origin.now (option_copied header.entry)
+            → ((f : Feature) → child.container f ≡ None) → IsPolicyOf policy top (rest ++ child ∷ [])) }
     {
         let own = read_header(alloc, header, origin)?;
         let container = Container::empty(alloc);

@@ -1,8 +1,8 @@
 //! Judges lines.
 ghost use Rattle.std.specs.Prelude.{◌≡◌, ℕ, IfOk, Some, false};
 ghost use Rattle.std.specs.Option.{option_copied};
-ghost use Rattle.pe_lines.specs.Cutting.{told};
-ghost use Rattle.pe_rules.specs.History.{History, Told};
+ghost use Rattle.pe_lines.specs.Cutting.{line_of_cut};
+ghost use Rattle.pe_rules.specs.History.{History, RepliedHistory};
 ghost use Rattle.pe_output.specs.Built.{reading_built};
 ghost use Rattle.pe_session.specs.Judging.{Stands, Judged};
 ghost use Rattle.pe_session.specs.Keeping.{Keeps};
@@ -24,7 +24,7 @@ pub fn judge(
     out: &mut Vec<u8>,
 ) -> Result<bool, AllocError>
     ensures ok { (duration : ℕ) (H : History) → Stands duration events.old H → IfOk result (λ refused.
-        Judged duration events.new number H (told line.entry) out.old.items out.new.items refused) }
+        Judged duration events.new number H (line_of_cut line.entry) out.old.items out.new.items refused) }
 {
     match line {
         Cut::TooLong => {
@@ -48,7 +48,7 @@ pub fn judge(
 /// What a line is answered that is neither blank nor a comment.
 fn answer(events: &mut Events, line: &[u8]) -> Result<Reply, AllocError>
     requires { is_silent line.now ≡ false }
-    ensures { (duration : ℕ) (T : Told) → Keeps events.old T
+    ensures { (duration : ℕ) (T : RepliedHistory) → Keeps events.old T
         → IfOk result (AnswersReading duration T (reading_built (Some line.now)) events.new) }
 {
     match words(events.alloc, line) {
@@ -75,7 +75,7 @@ fn header_bytes<'a>(header: &'a Option<Text<'_>>) -> Option<&'a [u8]>
 
 /// What the words of a line are answered.
 fn answer_words(events: &mut Events, words: &[Word<'_>]) -> Result<Reply, AllocError>
-    ensures { (duration : ℕ) (T : Told) → Keeps events.old T
+    ensures { (duration : ℕ) (T : RepliedHistory) → Keeps events.old T
         → IfOk result (AnswersWords duration T (event_built words.now) events.new) }
 {
     match read_words(events.alloc, words) {

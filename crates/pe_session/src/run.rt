@@ -9,7 +9,7 @@ ghost use Rattle.pe_session.specs.Outcome.{
   says_refused,
   AppendsPrefix,
 };
-ghost use Rattle.pe_session.specs.Session.{IsAt};
+ghost use Rattle.pe_session.specs.Session.{HasTaken};
 
 use crate::session::{Session, Stop};
 use crate::status::Status;
@@ -86,7 +86,7 @@ fn stream<S: Source, K: Sink>(
     source: &mut S,
     sink: &mut K,
 ) -> Status
-    requires starts { (duration : ℕ) → IsAt duration session.old [] }
+    requires starts { (duration : ℕ) → HasTaken duration session.old [] }
     requires some { 0 < length room.old }
     requires few { length room.old ≤ 65536 }
     requires limit { limit ≤ 1073741824 }

@@ -35,15 +35,15 @@ pub struct Session {
 impl Session {
     ghost use Rattle.std.specs.Prelude.{ℕ, List, [], Option};
     ghost use Rattle.pe_lines.specs.Cutting.{Cuts};
-    ghost use Rattle.pe_lines.specs.Lines.{told_ended_lines};
+    ghost use Rattle.pe_lines.specs.Lines.{ended_lines_or_too_long};
     ghost use Rattle.pe_rules.specs.History.{History};
     ghost use Rattle.pe_output.specs.Built.{built_refuses};
     ghost use Rattle.pe_session.specs.Judging.{Stands};
-    ghost use Rattle.pe_session.specs.Session.{Went, IsAt, Adds, AddsLast};
+    ghost use Rattle.pe_session.specs.Session.{HasJudged, HasTaken, Adds, AddsLast};
 
     /// A session that has taken nothing.
     pub fn new(alloc: Global) -> Session
-        ensures { (duration : ℕ) → IsAt duration result [] }
+        ensures { (duration : ℕ) → HasTaken duration result [] }
     {
         Session {
             cutter: Cutter::new(alloc),
@@ -68,10 +68,10 @@ impl Session {
         ensures open { self.new.cutter.finished ≡ false }
         ensures ok { OnOk result ((done : List (Option (List ℕ)))
             × Cuts self.old.cutter.bytes done self.new.cutter.bytes
-            × (told_ended_lines self.new.cutter.bytes ≡ [])
+            × (ended_lines_or_too_long self.new.cutter.bytes ≡ [])
             × (self.new.number ≡ self.old.number + length done)
             × ((duration : ℕ) (H : History) → Stands duration self.old.events H
-            → Went duration self.new.events self.old.number H self.old.out.items self.new.out.items self.old.refused self.new.refused done)) }
+            → HasJudged duration self.new.events self.old.number H self.old.out.items self.new.out.items self.old.refused self.new.refused done)) }
     {
         while let Some(line) = self.cutter.next_line() {
             let refused = judge(&mut self.events, self.number, line, &mut self.out)?;
@@ -86,12 +86,12 @@ impl Session {
         requires open { self.old.cutter.finished ≡ false }
         requires room { self.old.number + length self.old.cutter.bytes + length piece.now < 2 ^ 64 - 1 }
         requires count { K.faults sink.old < 2 ^ 64 - 1 }
-        ensures ok { OnOk result ((duration : ℕ) (taken : List ℕ) → IsAt duration self.old taken → IsAt duration self.new (taken ++ piece.now)
+        ensures ok { OnOk result ((duration : ℕ) (taken : List ℕ) → HasTaken duration self.old taken → HasTaken duration self.new (taken ++ piece.now)
             × ((text : List ℕ) × Adds duration taken piece.now text × Appends (K.written sink.old) (K.written sink.new) text)) }
         ensures kept { OnOk result (K.faults sink.new ≡ K.faults sink.old) }
         ensures memory { IsErrOf result Stop.Memory → sink.new ≡ sink.old }
         ensures write { IsErrOf result Stop.Write → (K.faults sink.old < K.faults sink.new)
-            × ((duration : ℕ) (taken : List ℕ) → IsAt duration self.old taken → ((text : List ℕ) × (rest : List ℕ)
+            × ((duration : ℕ) (taken : List ℕ) → HasTaken duration self.old taken → ((text : List ℕ) × (rest : List ℕ)
             × Adds duration taken piece.now (text ++ rest) × Appends (K.written sink.old) (K.written sink.new) text)) }
     {
         let Ok(()) = self.cutter.feed(piece) else {
@@ -110,7 +110,7 @@ impl Session {
     /// Says that the input ended, and judges a last line that no line feed ended.
     fn judge_last(&mut self) -> Result<(), AllocError>
         requires open { self.old.cutter.finished ≡ false }
-        ensures ok { OnOk result ((duration : ℕ) (taken : List ℕ) → IsAt duration self.old taken → AddsLast duration taken self.new.out.items
+        ensures ok { OnOk result ((duration : ℕ) (taken : List ℕ) → HasTaken duration self.old taken → AddsLast duration taken self.new.out.items
             × (self.new.refused ≡ built_refuses duration taken)) }
     {
         self.cutter.finish();
@@ -128,12 +128,12 @@ impl Session {
     pub fn end<K: Sink>(&mut self, sink: &mut K) -> Result<(), Stop>
         requires open { self.old.cutter.finished ≡ false }
         requires count { K.faults sink.old < 2 ^ 64 - 1 }
-        ensures ok { OnOk result ((duration : ℕ) (taken : List ℕ) → IsAt duration self.old taken → (self.new.refused ≡ built_refuses duration taken)
+        ensures ok { OnOk result ((duration : ℕ) (taken : List ℕ) → HasTaken duration self.old taken → (self.new.refused ≡ built_refuses duration taken)
             × ((text : List ℕ) × AddsLast duration taken text × Appends (K.written sink.old) (K.written sink.new) text)) }
         ensures kept { OnOk result (K.faults sink.new ≡ K.faults sink.old) }
         ensures memory { IsErrOf result Stop.Memory → sink.new ≡ sink.old }
         ensures write { IsErrOf result Stop.Write → (K.faults sink.old < K.faults sink.new)
-            × ((duration : ℕ) (taken : List ℕ) → IsAt duration self.old taken → ((text : List ℕ) × (rest : List ℕ)
+            × ((duration : ℕ) (taken : List ℕ) → HasTaken duration self.old taken → ((text : List ℕ) × (rest : List ℕ)
             × AddsLast duration taken (text ++ rest) × Appends (K.written sink.old) (K.written sink.new) text)) }
     {
         let Ok(()) = self.judge_last() else {

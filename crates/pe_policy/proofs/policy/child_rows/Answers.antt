@@ -1,6 +1,6 @@
 use Rattle.std.proofs.Common.{[], ap, ◌∙◌, arith, ◌≤◌}
 use Rattle.pe_features.specs.declared.feature.Feature.{Feature}
-use Rattle.pe_policy.specs.Failing.{Rows, allowed_row, row_of, child_row, failing_at_child, link_of}
+use Rattle.pe_policy.specs.PolicyValue.{PolicyValue, allowed_row, row_of, child_row, failing_at_child, link_of}
 use Rattle.pe_policy.proofs.FeatureTable.{feature_at, table-more, table-whole}
 use Rattle.pe_policy.proofs.Stands.{child_row-same, row_of-same, uncontrolled-child}
 use Rattle.pe_policy.proofs.policy.child_rows.Goals as goal
@@ -9,8 +9,8 @@ pub loop-i-preserved : goal.loop-i-preserved
 loop-i-preserved c =
     table-more (λ (f : Feature). child_row (row_of c.args.parent.now f).denial (failing_at_child f (link_of 0 c.args.parent_origin.now c.args.parent.now.declared []) (link_of 0 c.args.origin.now c.args.declared.now c.args.container.now)) c.args.parent.now.document c.args.doc) allowed_row c.loop-i.rows c.loop-i.i c.at_child.result c.loop-i.invariant c.loop-i-test.true
     (c.at_child.ensures ∙ child_row-same _ _ _ _ _ _ c.args.doc c.why.ensures.row
-    (c.failing_at_child-links.ensures ∙ ap (λ (p : Rows). failing_at_child (feature_at c.loop-i.i) (link_of 0 c.args.parent_origin.now p.declared []) (link_of 0 c.args.origin.now c.args.declared.now c.args.container.now)) c.parent.view_is)
-    (ap (λ (p : Rows). p.document) c.parent.view_is))
+    (c.failing_at_child-links.ensures ∙ ap (λ (p : PolicyValue). failing_at_child (feature_at c.loop-i.i) (link_of 0 c.args.parent_origin.now p.declared []) (link_of 0 c.args.origin.now c.args.declared.now c.args.container.now)) c.parent.view_is)
+    (ap (λ (p : PolicyValue). p.document) c.parent.view_is))
 
 pub returns-clause-uncontrolled : goal.returns-clause-uncontrolled
 returns-clause-uncontrolled c = λ f h.

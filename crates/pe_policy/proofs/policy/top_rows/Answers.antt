@@ -1,7 +1,7 @@
 use Rattle.std.proofs.Common.{[], ap, ◌∙◌}
 use Rattle.pe_features.specs.declared.feature.Feature.{Feature}
 use Rattle.pe_policy.specs.declared.row.Links.{Links}
-use Rattle.pe_policy.specs.Failing.{allowed_row, top_row, failing_at_top, link_of}
+use Rattle.pe_policy.specs.PolicyValue.{allowed_row, top_row, failing_at_top, link_of}
 use Rattle.pe_policy.proofs.FeatureTable.{table-more}
 use Rattle.pe_policy.proofs.policy.top_rows.Goals as goal
 

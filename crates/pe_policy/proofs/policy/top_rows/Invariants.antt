@@ -1,6 +1,6 @@
 use Rattle.std.proofs.Common.{[]}
 use Rattle.pe_features.specs.declared.feature.Feature.{Feature}
-use Rattle.pe_policy.specs.Failing.{allowed_row, top_row, failing_at_top, link_of}
+use Rattle.pe_policy.specs.PolicyValue.{allowed_row, top_row, failing_at_top, link_of}
 use Rattle.pe_policy.proofs.FeatureTable.{IsTableUpTo}
 use Rattle.pe_policy.proofs.policy.top_rows.Given as goal
 

@@ -1,7 +1,7 @@
 use Rattle.std.proofs.Common.{◌≡◌, ◌+◌, ◌-◌, ◌≤◌, ℕ, List, length}
 use Rattle.std.specs.Io.KnownBytes.{Appends, Consumes}
 use Rattle.pe_output.specs.Built.{built_ended_text}
-use Rattle.pe_session.specs.Session.{IsAt}
+use Rattle.pe_session.specs.Session.{HasTaken}
 use Rattle.pe_session.proofs.run.stream.Given as goal
 
 abbrev pub invariant-loop-count : goal.invariant-loop-count
@@ -12,7 +12,7 @@ invariant-loop-count g l = record {
   went : (taken : List ℕ) × Consumes (g.S.Source.left l.fn.source) (g.S.Source.left l.source) taken
       × (l.total ≡ length taken)
       × ((duration : ℕ) → Appends (g.K.Sink.written l.fn.sink) (g.K.Sink.written l.sink) (built_ended_text duration taken))
-      × ((duration : ℕ) → IsAt duration l.session taken);
+      × ((duration : ℕ) → HasTaken duration l.session taken);
 }
 
 abbrev pub decreases-loop-count : goal.decreases-loop-count

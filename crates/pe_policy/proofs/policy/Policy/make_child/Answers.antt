@@ -1,5 +1,5 @@
 use Rattle.std.proofs.Common.{refl}
-use Rattle.pe_policy.specs.Failing.{row_of}
+use Rattle.pe_policy.specs.PolicyValue.{row_of}
 use Rattle.pe_policy.proofs.Stands.{stands-child}
 use Rattle.pe_policy.proofs.policy.Policy.make_child.Goals as goal
 

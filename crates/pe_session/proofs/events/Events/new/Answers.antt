@@ -1,11 +1,11 @@
 use Rattle.std.proofs.Common.{refl, arith}
-use Rattle.pe_rules.specs.History.{clock, each, each_newest, newest}
+use Rattle.pe_rules.specs.History.{clock, all_answers, answers_newest_first, newest_answer}
 use Rattle.pe_rules.specs.Causes.{live_pages, live_frames}
 use Rattle.pe_rules.specs.Numbering.{frames_made, is_frame}
 use Rattle.pe_session.proofs.events.Events.new.Goals as goal
 
 pub returns : goal.returns
-unfolding clock each each_newest newest live_pages live_frames frames_made is_frame
+unfolding clock all_answers answers_newest_first newest_answer live_pages live_frames frames_made is_frame
 returns c = rw (c.new.ensures, c.new-2.ensures.items) record {
   count = refl;
   few = omega arith;

@@ -1,6 +1,6 @@
 use Rattle.std.proofs.Common.{◌++◌, ◌∷◌, arith, refl, []}
 use Rattle.std.proofs.lemmas.List.{length_push}
-use Rattle.pe_lines.specs.Cutting.{told}
+use Rattle.pe_lines.specs.Cutting.{line_of_cut}
 use Rattle.pe_session.specs.Session.{history_after_lines, readings}
 use Rattle.pe_session.proofs.Texts.{Went-more, Went-none}
 use Rattle.pe_session.proofs.Stretches.{next-whole, Cuts-none, Cuts-join}
@@ -17,9 +17,9 @@ loop-line-preserved c =
       open_still = open_still;
       room = omega (arith, took.fewer, c.loop-line.invariant.room);
       went = (
-        done ++ told c.in-Some.line ∷ [],
+        done ++ line_of_cut c.in-Some.line ∷ [],
         Cuts-join _ done _ _ _ cuts took,
-        omega (arith, number, length_push done (told c.in-Some.line)),
+        omega (arith, number, length_push done (line_of_cut c.in-Some.line)),
         λ duration H h. Went-more duration _ _ _ _ H _ _ _ _ _ _ _ done _ number (went duration H h)
             (c.in_ok-refused.ensures.ok duration (history_after_lines duration H (readings done)) (went duration H h).stands) refl,
       );

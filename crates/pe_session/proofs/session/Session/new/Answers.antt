@@ -1,12 +1,12 @@
 use Rattle.std.proofs.Common.{[], refl}
-use Rattle.pe_lines.specs.Lines.{told_ended_lines, ended_lines}
+use Rattle.pe_lines.specs.Lines.{ended_lines_or_too_long, ended_lines}
 use Rattle.pe_output.specs.OutputText.{refuses_from}
-use Rattle.pe_rules.specs.Replies.{told}
+use Rattle.pe_rules.specs.Replies.{replied}
 use Rattle.pe_session.proofs.Stretches.{Cuts-none}
 use Rattle.pe_session.proofs.session.Session.new.Goals as goal
 
 pub returns : goal.returns
-unfolding told_ended_lines ended_lines refuses_from told
+unfolding ended_lines_or_too_long ended_lines refuses_from replied
 returns c = λ duration. record {
   cuts = rw c.new.ensures.bytes (Cuts-none []);
   none = rw c.new.ensures.bytes refl;

@@ -13,7 +13,7 @@ use Rattle.pe_allowlist.specs.declared.allowlist.Allowlist.{Allowlist}
 use Rattle.pe_allowlist.specs.Lists.{lists_of, is_policy_controlled}
 use Rattle.pe_policy.specs.declared.row.Links.{Links}
 use Rattle.pe_policy.specs.declared.row.Row.{Row}
-use Rattle.pe_policy.specs.Links.{Link, last_link, fails_embedder_header, fails_allow, fails_default, fails_own_header, denied_where, pair_test, own_test}
+use Rattle.pe_policy.specs.Links.{ChainDocument, end_of_chain, fails_embedder_header, fails_allow, fails_default, fails_own_header, denied_where, pair_test, own_test}
 use Rattle.pe_policy.specs.Denials.{denial}
 
 -- no test fails
@@ -25,12 +25,12 @@ abbrev pub allowed_row : Row
 allowed_row = record { denial = None; links = no_links }
 
 -- which tests fail at a top document: its own header's alone
-abbrev pub failing_at_top : Feature → Link → Links
+abbrev pub failing_at_top : Feature → ChainDocument → Links
 failing_at_top feature link =
     if is_policy_controlled feature then record no_links { own_header = fails_own_header feature link } else no_links
 
 -- which tests fail at a child: those between its embedder and it, and its own header's
-abbrev pub failing_at_child : Feature → Link → Link → Links
+abbrev pub failing_at_child : Feature → ChainDocument → ChainDocument → Links
 failing_at_child feature embedder child =
     if is_policy_controlled feature
     then record {
@@ -42,7 +42,7 @@ failing_at_child feature embedder child =
     else no_links
 
 -- which tests fail at the last of the links from the top one on
-unfoldable pub failing_at : Feature → List Link → Links
+unfoldable pub failing_at : Feature → List ChainDocument → Links
 failing_at feature [] = no_links
 failing_at feature (link ∷ []) = failing_at_top feature link
 failing_at feature (embedder ∷ child ∷ []) = failing_at_child feature embedder child
@@ -80,44 +80,44 @@ child_row above links embedder document =
 
 -- what a policy is: its document's number, a row for each feature, in the table's order, and the pairs
 -- of the declared policy
-pub record Rows : Type 0 where
+pub record PolicyValue : Type 0 where
   pub document : ℕ
   pub rows : List Row
   pub declared : List (Feature × Allowlist)
 
 -- the row of a feature
-unfoldable pub row_of : Rows → Feature → Row
+unfoldable pub row_of : PolicyValue → Feature → Row
 row_of policy feature = slice_index_or policy.rows (feature_number feature) allowed_row
 
 -- a document with the pairs of its declared policy and of the container policy
-abbrev pub link_of : ℕ → Origin → List (Feature × Allowlist) → List (Feature × Allowlist) → Link
+abbrev pub link_of : ℕ → Origin → List (Feature × Allowlist) → List (Feature × Allowlist) → ChainDocument
 link_of document origin declared container =
     record { document = document; origin = origin; declared = lists_of declared; container = lists_of container }
 
 -- the link is of this document, origin and declared policy
-pub record IsDocument (link : Link) (document : ℕ) (origin : Origin) (declared : List (Feature × Allowlist)) : Type 0 where
+pub record IsDocument (link : ChainDocument) (document : ℕ) (origin : Origin) (declared : List (Feature × Allowlist)) : Type 0 where
   pub numbered : link.document ≡ document
   pub of_origin : link.origin ≡ origin
   pub declares : (feature : Feature) → link.declared feature ≡ lists_of declared feature
 
 -- the link's document is made under this container policy
-abbrev pub IsContained : Link → List (Feature × Allowlist) → Type 0
+abbrev pub IsContained : ChainDocument → List (Feature × Allowlist) → Type 0
 IsContained link container = (feature : Feature) → link.container feature ≡ lists_of container feature
 
 -- the policy is that of the last of the links from the top one on
-pub record StandsFor (policy : Rows) (top : Link) (rest : List Link) : Type 0 where
-  pub numbered : (last_link top rest).document ≡ policy.document
-  pub declares : (feature : Feature) → (last_link top rest).declared feature ≡ lists_of policy.declared feature
+pub record IsPolicyOf (policy : PolicyValue) (top : ChainDocument) (rest : List ChainDocument) : Type 0 where
+  pub numbered : (end_of_chain top rest).document ≡ policy.document
+  pub declares : (feature : Feature) → (end_of_chain top rest).declared feature ≡ lists_of policy.declared feature
   pub denies : (feature : Feature) → (row_of policy feature).denial ≡ denial feature (top ∷ rest)
   pub fails : (feature : Feature) → (row_of policy feature).links ≡ failing_at feature (top ∷ rest)
 
 -- the rule of the first of the four tests of a pair that fails, for a policy-controlled feature
-abbrev pub pair_rule : Feature → Link → Link → Option LinkRule
+abbrev pub pair_rule : Feature → ChainDocument → ChainDocument → Option LinkRule
 pair_rule feature embedder child =
     if is_policy_controlled feature then option_map (λ (found : Denial). found.rule) (pair_test feature embedder child) else None
 
 -- the rule of the test of a document's own declared policy, where it fails for a policy-controlled
 -- feature
-abbrev pub own_rule : Feature → Link → Option LinkRule
+abbrev pub own_rule : Feature → ChainDocument → Option LinkRule
 own_rule feature link =
     if is_policy_controlled feature then option_map (λ (found : Denial). found.rule) (own_test feature link) else None
