@@ -1,5 +1,6 @@
 -- How a line is judged.
 use Rattle.std.proofs.Common.{◌≡◌, ℕ, Bool, true, false, List, [], ◌∷◌, ◌++◌, Option, Some, None, Result, Ok, Err, IfOk, refl, sym, ◌∙◌, ap, append-nil}
+use Rattle.std.proofs.lemmas.Option.{none-some}
 use Rattle.pe_events.specs.Texts.{answer_text}
 use Rattle.pe_events.specs.declared.answer.Answer.{Answer}
 use Rattle.pe_events.specs.declared.answer.Answer.TheVariants as answer
@@ -12,15 +13,12 @@ use Rattle.pe_rules.specs.Causes.{cause_of}
 use Rattle.pe_rules.specs.Changes.{numbers_above, changes_before, changes_after}
 use Rattle.pe_rules.specs.Statuses.{live_statuses}
 use Rattle.pe_rules.specs.Replies.{replied, step_answer, accepts_in, reply_in, answer_of}
-use Rattle.pe_output.specs.Built.{reading_built}
+use Rattle.pe_output.specs.Built.{is_built, as_built, reading_built}
 use Rattle.pe_output.specs.OutputText.{event_text, line_text, history_after, history_after_line, is_refused}
 use Rattle.pe_session.specs.declared.events.Events.{Events}
-use Rattle.pe_session.specs.declared.reply.Reply.{Reply}
-use Rattle.pe_session.specs.declared.reply.Reply.TheVariants.{FrameMade, Allowed, Denied, Refused}
 use Rattle.pe_session.specs.Keeping.{Keeps}
 use Rattle.pe_session.specs.Judging.{Stands, Judged}
-use Rattle.pe_session.specs.Replying.{step_of, told_reply, is_refusal, IsRefusal, IsAcceptance, IsReply, AnswersWords, AnswersReading}
-use Rattle.pe_session.specs.Saying.{reading_said}
+use Rattle.pe_session.specs.Replying.{step_of, is_refusal, IsRefusal, IsAcceptance, IsReply, AnswersEvent, AnswersReading}
 
 -- ---- what an event at time 0 brings
 
@@ -117,31 +115,56 @@ judged-accepted duration old events number H line out new e said h says a text =
   refused_is = rw (says, accepted-is (replied duration H) e a.cause) refl;
 }
 
-judged-says : (duration : ℕ) (old events : Events) (number : ℕ) (H : History) (line : Option (List ℕ)) (out new : List ℕ) (e : Event) (reply : Reply) → Stands duration old H → reading_built line ≡ Says (at_zero e)
-    → IsReply duration (replied duration H) e events reply → new ≡ out ++ answer_text number (told_reply reply) → Judged duration events number H line out new (is_refusal reply)
-judged-says duration old events number H line out new e (Refused why) h says r text = judged-refused duration events number H line out new e why says r text
-judged-says duration old events number H line out new e (FrameMade made origin) h says r text = judged-accepted duration old events number H line out new e _ h says r text
-judged-says duration old events number H line out new e Allowed h says r text = judged-accepted duration old events number H line out new e _ h says r text
-judged-says duration old events number H line out new e (Denied denial) h says r text = judged-accepted duration old events number H line out new e _ h says r text
+judged-says : (duration : ℕ) (old events : Events) (number : ℕ) (H : History) (line : Option (List ℕ)) (out new : List ℕ) (e : Event) (said : Answer) → Stands duration old H → reading_built line ≡ Says (at_zero e)
+    → IsReply duration (replied duration H) e events said → new ≡ out ++ answer_text number said → Judged duration events number H line out new (is_refusal said)
+judged-says duration old events number H line out new e (answer.Refused why) h says r text = judged-refused duration events number H line out new e why says r text
+judged-says duration old events number H line out new e (answer.FrameMade frame doc origin) h says r text = judged-accepted duration old events number H line out new e _ h says r text
+judged-says duration old events number H line out new e (answer.DocMade doc origin) h says r text = judged-accepted duration old events number H line out new e _ h says r text
+judged-says duration old events number H line out new e answer.Done h says r text = judged-accepted duration old events number H line out new e _ h says r text
+judged-says duration old events number H line out new e (answer.Activated count) h says r text = judged-accepted duration old events number H line out new e _ h says r text
+judged-says duration old events number H line out new e answer.Ignored h says r text = judged-accepted duration old events number H line out new e _ h says r text
+judged-says duration old events number H line out new e (answer.Activity sticky transient) h says r text = judged-accepted duration old events number H line out new e _ h says r text
+judged-says duration old events number H line out new e answer.Allowed h says r text = judged-accepted duration old events number H line out new e _ h says r text
+judged-says duration old events number H line out new e (answer.Denied why) h says r text = judged-accepted duration old events number H line out new e _ h says r text
+judged-says duration old events number H line out new e (answer.Names allowed) h says r text = judged-accepted duration old events number H line out new e _ h says r text
+judged-says duration old events number H line out new e (answer.StatusMade status state) h says r text = judged-accepted duration old events number H line out new e _ h says r text
+judged-says duration old events number H line out new e (answer.Stated state) h says r text = judged-accepted duration old events number H line out new e _ h says r text
+judged-says duration old events number H line out new e (answer.PromptMade prompt) h says r text = judged-accepted duration old events number H line out new e _ h says r text
+judged-says duration old events number H line out new e (answer.PromptJoined prompt) h says r text = judged-accepted duration old events number H line out new e _ h says r text
+judged-says duration old events number H line out new e (answer.Settled count state) h says r text = judged-accepted duration old events number H line out new e _ h says r text
+judged-says duration old events number H line out new e (answer.MessageMade message) h says r text = judged-accepted duration old events number H line out new e _ h says r text
+judged-says duration old events number H line out new e answer.Delivered h says r text = judged-accepted duration old events number H line out new e _ h says r text
+judged-says duration old events number H line out new e answer.DroppedGone h says r text = judged-accepted duration old events number H line out new e _ h says r text
+judged-says duration old events number H line out new e answer.DroppedOther h says r text = judged-accepted duration old events number H line out new e _ h says r text
 
-pub judged-reply : (duration : ℕ) (old events : Events) (number : ℕ) (H : History) (line : Option (List ℕ)) (out new : List ℕ) (reading : Reading) (reply : Reply) → Stands duration old H → reading_built line ≡ reading
-    → AnswersReading duration (replied duration H) reading events reply → new ≡ out ++ answer_text number (told_reply reply) → Judged duration events number H line out new (is_refusal reply)
-judged-reply duration old events number H line out new Silent reply h is r text = absurd r
-judged-reply duration old events number H line out new (Refusal why) reply h is r text =
-    rw r.0 (judged-refusal duration events number H line out new why r.1 is (rw r.0 at text))
-judged-reply duration old events number H line out new (Says e) reply h is r text =
-    judged-says duration old events number H line out new e.event reply h (is ∙ ap (λ t. Says (record { time = t; event = e.event })) r.0) r.1 text
+some-is : (a b : Answer) → Some a ≡ Some b → a ≡ b
+some-is a b e = cc
 
--- ---- words
+-- a line to which nothing is answered
+pub judged-none : (duration : ℕ) (old events : Events) (number : ℕ) (H : History) (line : Option (List ℕ)) (out : List ℕ) (reading : Reading) (given : Option Answer) → Stands duration old H → reading_built line ≡ reading
+    → AnswersReading duration (replied duration H) reading events given → given ≡ None → Judged duration events number H line out out false
+judged-none duration old events number H line out Silent given h is r none = judged-silent duration events number H line out r.1 is
+judged-none duration old events number H line out (Refusal why) given h is r none = absurd (none-some _ (sym none ∙ r.0))
+judged-none duration old events number H line out (Says e) None h is r none = absurd r.1
+judged-none duration old events number H line out (Says e) (Some said) h is r none = absurd (none-some _ (sym none))
 
-pub words-answered : (duration : ℕ) (T : RepliedHistory) (o : Option Event) (events : Events) (reply : Reply) → AnswersWords duration T o events reply → AnswersReading duration T (reading_said o) events reply
-words-answered duration T None events reply a = a
-words-answered duration T (Some e) events reply a = (refl, a)
+-- a line to which something is answered
+pub judged-some : (duration : ℕ) (old events : Events) (number : ℕ) (H : History) (line : Option (List ℕ)) (out new : List ℕ) (reading : Reading) (given : Option Answer) (said : Answer) → Stands duration old H → reading_built line ≡ reading
+    → AnswersReading duration (replied duration H) reading events given → given ≡ Some said → new ≡ out ++ answer_text number said → Judged duration events number H line out new (is_refusal said)
+judged-some duration old events number H line out new Silent given said h is r some text = absurd (none-some _ (sym r.0 ∙ some))
+judged-some duration old events number H line out new (Refusal why) given said h is r some text =
+    let same : said ≡ answer.Refused why = some-is said (answer.Refused why) (sym some ∙ r.0) in
+    rw same (judged-refusal duration events number H line out new why r.1 is (rw same at text))
+judged-some duration old events number H line out new (Says e) None said h is r some text = absurd r.1
+judged-some duration old events number H line out new (Says e) (Some x) said h is r some text =
+    let same : x ≡ said = some-is x said some in
+    judged-says duration old events number H line out new e.event said h (is ∙ ap (λ t. Says (record { time = t; event = e.event })) r.0) (rw same at r.1) text
 
 pub ok-more : {A E : Type 0} (r : Result A E) (P Q : A → Type 0) → ((x : A) → P x → Q x) → IfOk r P → IfOk r Q
 ok-more (Ok x) P Q f h = f x h
 ok-more (Err e) P Q f h = tt
 
-pub not-true : (b : Bool) → (b ≡ true → ⊥) → b ≡ false
-not-true true h = absurd (h refl)
-not-true false h = refl
+-- an event that is built, or not, as a line that says it
+pub event-answered : (duration : ℕ) (T : RepliedHistory) (e : Timed) (events : Events) (said : Answer) (b : Bool) → is_built e ≡ b → AnswersEvent duration T b e events said → AnswersReading duration T (as_built (Says e)) events (Some said)
+event-answered duration T e events said true h a = rw h a
+event-answered duration T e events said false h a = rw h (ap Some a.0, a.1)

@@ -1,4 +1,3 @@
-pub mod Digits
 pub mod Texts
 pub mod Stretches
 pub mod Outcomes
@@ -9,6 +8,4 @@ pub mod Framings
 pub mod Opening
 pub mod Growing
 pub mod Replies
-pub mod HeaderWords
-pub mod Sayings
 pub mod Judgings

@@ -12,6 +12,7 @@ use Rattle.pe_policy.specs.PolicyValue.{IsPolicyOf}
 use Rattle.pe_origin.specs.declared.origin.Origin.{Origin}
 use Rattle.pe_origin.specs.declared.place.Place.{Place}
 use Rattle.pe_origin.specs.Places.{place_at}
+use Rattle.pe_events.specs.declared.answer.Answer.{Answer}
 use Rattle.pe_events.specs.declared.answer.Answer.TheVariants as answer
 use Rattle.pe_events.specs.declared.cause.Cause.{Cause}
 use Rattle.pe_events.specs.declared.cause.Cause.TheVariants as cause
@@ -30,10 +31,9 @@ use Rattle.pe_rules.specs.Replies.{answer_of, new_origin, answer_of_denial}
 use Rattle.pe_laws.proofs.Numbers.{not_same, is_same}
 use Rattle.pe_session.specs.declared.events.Events.{Events}
 use Rattle.pe_session.specs.declared.frame.Frame.{Frame}
-use Rattle.pe_session.specs.declared.reply.Reply.{Reply}
 use Rattle.pe_session.specs.Keeping.{IsKept, IsKeptAt, AreKept, Keeps, frame_numbered}
 use Rattle.pe_session.specs.Framing.{child_origin, IsPage, IsChild}
-use Rattle.pe_session.specs.Replying.{step_of, policy_reply, IsRefusal, IsAcceptance, IsReply}
+use Rattle.pe_session.specs.Replying.{step_of, IsRefusal, IsAcceptance, IsReply}
 use Rattle.pe_session.specs.Saying.{page_event, child_event}
 use Rattle.pe_session.proofs.Older.{quiet-open, quiet-embed, quiet-policy}
 use Rattle.pe_session.proofs.Opening.{kept-page, origin-page, kept-child, origin-child}
@@ -344,15 +344,15 @@ policy-accepted duration T old new k name row f found h few e named controlled f
           (frame-policy T k name item) (omega (arith, h.sized, length_push old.sizes.items 0)) (push-zero old.sizes.items));
     }
 
-policy-answered : (duration : ℕ) (T : RepliedHistory) (events : Events) (e : Event) (found : Option Denial) → IsAcceptance duration T e events (answer_of_denial found) → IsReply duration T e events (policy_reply found)
+policy-answered : (duration : ℕ) (T : RepliedHistory) (events : Events) (e : Event) (found : Option Denial) → IsAcceptance duration T e events (answer_of_denial found) → IsReply duration T e events (answer_of_denial found)
 policy-answered duration T events e None done = done
 policy-answered duration T events e (Some denial) done = done
 
--- the reply that `policy` gives
-pub policy-replied : (duration : ℕ) (T : RepliedHistory) (old new : Events) (k : ℕ) (name : List ℕ) (row : Frame) (f : Feature) (found : Option Denial) (reply : Reply)
+-- the answer that `policy` gives
+pub policy-replied : (duration : ℕ) (T : RepliedHistory) (old new : Events) (k : ℕ) (name : List ℕ) (row : Frame) (f : Feature) (found : Option Denial) (said : Answer)
     → Keeps old T → length old.frames < 1000000 → frame_numbered old.frames k ≡ Some row → feature_named name ≡ Some f → is_policy_controlled f ≡ true
-    → ((top : ChainDocument) (rest : List ChainDocument) → IsPolicyOf row.policy top rest → found ≡ denial f (top ∷ rest)) → reply ≡ policy_reply found
+    → ((top : ChainDocument) (rest : List ChainDocument) → IsPolicyOf row.policy top rest → found ≡ denial f (top ∷ rest)) → said ≡ answer_of_denial found
     → new.frames ≡ old.frames ++ None ∷ [] → new.sizes.items ≡ old.sizes.items ++ 0 ∷ [] → new.pages ≡ old.pages
-    → IsReply duration T (event.PolicyOf k name) new reply
-policy-replied duration T old new k name row f found reply h few e named controlled first is frames sizes pages =
+    → IsReply duration T (event.PolicyOf k name) new said
+policy-replied duration T old new k name row f found said h few e named controlled first is frames sizes pages =
     rw is (policy-answered duration T new (event.PolicyOf k name) found (policy-accepted duration T old new k name row f found h few e named controlled first frames sizes pages))

@@ -1,4 +1,3 @@
-pub mod Headers
 pub mod Saying
 pub mod Framing
 pub mod Unboxed

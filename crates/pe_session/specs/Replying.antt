@@ -1,39 +1,24 @@
 -- What an event is replied, and what it leaves.
 -- This project's own.
 -- A refusal leaves everything as it is; with an accepted event what is kept goes on.
-use Rattle.std.specs.Prelude.{◌≡◌, ℕ, Bool, true, false, ◌∷◌, Option, Some, None}
-use Rattle.pe_base.specs.declared.denial.Denial.{Denial}
+use Rattle.std.specs.Prelude.{◌≡◌, ℕ, Bool, true, false, ◌∷◌, Option, Some, None, IsSomeAnd}
 use Rattle.pe_events.specs.declared.answer.Answer.{Answer}
 use Rattle.pe_events.specs.declared.answer.Answer.TheVariants as answer
 use Rattle.pe_events.specs.declared.cause.Cause.{Cause}
 use Rattle.pe_events.specs.declared.cause.Cause.TheVariants as cause
 use Rattle.pe_script.specs.Reading.{Reading, Silent, Refusal, Says}
 use Rattle.pe_events.specs.declared.event.Event.{Event}
-use Rattle.pe_events.specs.declared.reason.Reason.TheVariants as reason
+use Rattle.pe_events.specs.Timed.{Timed}
 use Rattle.pe_rules.specs.History.{StepAnswer, Step, RepliedHistory}
 use Rattle.pe_rules.specs.Causes.{cause_of}
 use Rattle.pe_rules.specs.Replies.{answer_of}
 use Rattle.pe_session.specs.declared.events.Events.{Events}
-use Rattle.pe_session.specs.declared.reply.Reply.{Reply}
-use Rattle.pe_session.specs.declared.reply.Reply.TheVariants.{FrameMade, Allowed, Denied, Refused}
 use Rattle.pe_session.specs.Keeping.{Keeps}
 
--- the answer that a reply is
-abbrev pub told_reply : Reply → Answer
-told_reply (FrameMade number origin) = answer.FrameMade number number origin
-told_reply Allowed = answer.Allowed
-told_reply (Denied denial) = answer.Denied (reason.Policy denial)
-told_reply (Refused why) = answer.Refused why
-
--- the reply is a refusal
-abbrev pub is_refusal : Reply → Bool
-is_refusal (Refused why) = true
-is_refusal reply = false
-
--- the reply to `policy`, by what denies the feature
-abbrev pub policy_reply : Option Denial → Reply
-policy_reply None = Allowed
-policy_reply (Some denial) = Denied denial
+-- the answer is a refusal
+abbrev pub is_refusal : Answer → Bool
+is_refusal (answer.Refused why) = true
+is_refusal said = false
 
 -- an event at time 0, with what is told of it
 abbrev pub step_of : Event → StepAnswer → Step
@@ -50,20 +35,18 @@ pub record IsAcceptance (duration : ℕ) (T : RepliedHistory) (e : Event) (event
   pub answer_is : answer_of duration T 0 e ≡ said
   pub kept : (item : StepAnswer) → Keeps events (step_of e item ∷ T)
 
--- the event is replied this
-abbrev pub IsReply : ℕ → RepliedHistory → Event → Events → Reply → Type 0
-IsReply duration T e events (Refused why) = IsRefusal T e events why
-IsReply duration T e events (FrameMade number origin) = IsAcceptance duration T e events (answer.FrameMade number number origin)
-IsReply duration T e events Allowed = IsAcceptance duration T e events answer.Allowed
-IsReply duration T e events (Denied denial) = IsAcceptance duration T e events (answer.Denied (reason.Policy denial))
+-- the event is answered this
+abbrev pub IsReply : ℕ → RepliedHistory → Event → Events → Answer → Type 0
+IsReply duration T e events (answer.Refused why) = IsRefusal T e events why
+IsReply duration T e events said = IsAcceptance duration T e events said
 
--- the reply to words that say this event, or none that is built
-abbrev pub AnswersWords : ℕ → RepliedHistory → Option Event → Events → Reply → Type 0
-AnswersWords duration T None events reply = (reply ≡ Refused cause.Syntax) × Keeps events T
-AnswersWords duration T (Some e) events reply = IsReply duration T e events reply
+-- an event that is built is answered this, and any other is refused as no line of the grammar
+abbrev pub AnswersEvent : ℕ → RepliedHistory → Bool → Timed → Events → Answer → Type 0
+AnswersEvent duration T true e events said = (e.time ≡ 0) × IsReply duration T e.event events said
+AnswersEvent duration T false e events said = (said ≡ answer.Refused cause.Syntax) × Keeps events T
 
--- the reply to a line of this reading that is not silent
-abbrev pub AnswersReading : ℕ → RepliedHistory → Reading → Events → Reply → Type 0
-AnswersReading duration T Silent events reply = ⊥
-AnswersReading duration T (Refusal why) events reply = (reply ≡ Refused why) × Keeps events T
-AnswersReading duration T (Says e) events reply = (e.time ≡ 0) × IsReply duration T e.event events reply
+-- the answer to a line of this reading: none to one that is silent
+abbrev pub AnswersReading : ℕ → RepliedHistory → Reading → Events → Option Answer → Type 0
+AnswersReading duration T Silent events given = (given ≡ None) × Keeps events T
+AnswersReading duration T (Refusal why) events given = (given ≡ Some (answer.Refused why)) × Keeps events T
+AnswersReading duration T (Says e) events given = (e.time ≡ 0) × IsSomeAnd given (IsReply duration T e.event events)

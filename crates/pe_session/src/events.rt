@@ -21,15 +21,17 @@ ghost use Rattle.std.specs.Prelude.{
 ghost use Rattle.std.specs.Option.{option_copied};
 ghost use Rattle.pe_allowlist.specs.Lists.{is_policy_controlled};
 ghost use Rattle.pe_features.specs.Features.{feature_named};
+ghost use Rattle.pe_base.specs.declared.limits.TheConstants.{EVENT_LIMIT};
+ghost use Rattle.pe_events.specs.declared.answer.Answer.TheVariants as answer;
 ghost use Rattle.pe_rules.specs.Causes.{lacks_default};
+ghost use Rattle.pe_rules.specs.Replies.{answer_of_denial};
 
 use crate::frame::Frame;
-use crate::reply::Reply;
 use crate::table::FrameTable;
-use pe_base::{DEPTH_LIMIT, EVENT_LIMIT, FRAME_LIMIT, PAGE_LIMIT};
-use pe_events::Cause;
+use pe_base::{DEPTH_LIMIT, Denial, DocNo, EVENT_LIMIT, FRAME_LIMIT, FrameNo, PAGE_LIMIT};
+use pe_events::{Answer, Cause, Reason};
 use pe_features::Feature;
-use pe_origin::{PlaceFault, read_place};
+use pe_origin::{Origin, PlaceFault, read_place};
 use std::alloc::{AllocError, Global};
 
 /// The accepted events.
@@ -64,6 +66,31 @@ fn controlled(name: &[u8]) -> Option<Feature>
     let feature = Feature::by_name(name)?;
     feature.default_of()?;
     Some(feature)
+}
+
+/// That a frame and its document, both of this number, were made.
+fn frame_made(number: u32, origin: Origin) -> Answer
+    requires low { 1 ≤ number }
+    requires high { number ≤ EVENT_LIMIT }
+    ensures { result ≡ answer.FrameMade number number origin }
+{
+    Answer::FrameMade {
+        frame: FrameNo::of(number),
+        doc: DocNo::of(number),
+        origin,
+    }
+}
+
+/// What `policy` is answered, by what denies the feature.
+fn by_denial(denial: Option<Denial>) -> Answer
+    ensures { result ≡ answer_of_denial denial }
+{
+    match denial {
+        None => Answer::Allowed,
+        Some(denial) => Answer::Denied {
+            reason: Reason::Policy(denial),
+        },
+    }
 }
 
 impl Events {
@@ -120,22 +147,22 @@ impl Events {
     }
 
     /// `open URL` with this header at time 0.
-    pub fn open(&mut self, url: &[u8], header: Option<&[u8]>) -> Result<Reply, AllocError>
+    pub fn open(&mut self, url: &[u8], header: Option<&[u8]>) -> Result<Answer, AllocError>
         ensures { (duration : ℕ) (T : RepliedHistory) → Keeps self.old T
             → IfOk result (IsReply duration T (page_event url.now (option_copied header.entry)) self.new) }
     {
         let Some(number) = self.next_number() else {
-            return Ok(Reply::Refused {
+            return Ok(Answer::Refused {
                 cause: Cause::LimitEvents,
             });
         };
         let place = match read_place(self.alloc, url) {
             Ok(place) => place,
-            Err(PlaceFault::NotAUrl) => return Ok(Reply::Refused { cause: Cause::Url }),
+            Err(PlaceFault::NotAUrl) => return Ok(Answer::Refused { cause: Cause::Url }),
             Err(PlaceFault::Memory) => return Err(AllocError),
         };
         if self.pages >= PAGE_LIMIT {
-            return Ok(Reply::Refused {
+            return Ok(Answer::Refused {
                 cause: Cause::LimitPages,
             });
         }
@@ -143,7 +170,7 @@ impl Events {
         let origin = frame.origin.copy()?;
         self.keep(Some(frame), 1)?;
         self.pages += 1;
-        Ok(Reply::FrameMade { number, origin })
+        Ok(frame_made(number, origin))
     }
 
     /// `embed F URL` with this header at time 0.
@@ -152,32 +179,32 @@ impl Events {
         parent: u32,
         url: &[u8],
         header: Option<&[u8]>,
-    ) -> Result<Reply, AllocError>
+    ) -> Result<Answer, AllocError>
         ensures { (duration : ℕ) (T : RepliedHistory) → Keeps self.old T
             → IfOk result (IsReply duration T (child_event parent url.now (option_copied header.entry)) self.new) }
     {
         let Some(number) = self.next_number() else {
-            return Ok(Reply::Refused {
+            return Ok(Answer::Refused {
                 cause: Cause::LimitEvents,
             });
         };
         let Some(frame) = self.frames.frame(parent) else {
-            return Ok(Reply::Refused {
+            return Ok(Answer::Refused {
                 cause: Cause::Unknown,
             });
         };
         let place = match read_place(self.alloc, url) {
             Ok(place) => place,
-            Err(PlaceFault::NotAUrl) => return Ok(Reply::Refused { cause: Cause::Url }),
+            Err(PlaceFault::NotAUrl) => return Ok(Answer::Refused { cause: Cause::Url }),
             Err(PlaceFault::Memory) => return Err(AllocError),
         };
         if frame.depth >= DEPTH_LIMIT {
-            return Ok(Reply::Refused {
+            return Ok(Answer::Refused {
                 cause: Cause::LimitDepth,
             });
         }
         if self.page_size(frame.page) >= FRAME_LIMIT {
-            return Ok(Reply::Refused {
+            return Ok(Answer::Refused {
                 cause: Cause::LimitFrames,
             });
         }
@@ -185,30 +212,30 @@ impl Events {
         let origin = child.origin.copy()?;
         count_one(&mut self.sizes, child.page);
         self.keep(Some(child), 0)?;
-        Ok(Reply::FrameMade { number, origin })
+        Ok(frame_made(number, origin))
     }
 
     /// `policy F NAME` at time 0.
-    pub fn policy(&mut self, number: u32, name: &[u8]) -> Result<Reply, AllocError>
+    pub fn policy(&mut self, number: u32, name: &[u8]) -> Result<Answer, AllocError>
         ensures { (duration : ℕ) (T : RepliedHistory) → Keeps self.old T → IfOk result (IsReply duration T (event.PolicyOf number name.now) self.new) }
     {
         let Some(_) = self.next_number() else {
-            return Ok(Reply::Refused {
+            return Ok(Answer::Refused {
                 cause: Cause::LimitEvents,
             });
         };
         let Some(frame) = self.frames.frame(number) else {
-            return Ok(Reply::Refused {
+            return Ok(Answer::Refused {
                 cause: Cause::Unknown,
             });
         };
         let Some(feature) = controlled(name) else {
-            return Ok(Reply::Refused {
+            return Ok(Answer::Refused {
                 cause: Cause::Feature,
             });
         };
-        let reply = Reply::of_policy(frame.policy.why(feature));
+        let answer = by_denial(frame.policy.why(feature));
         self.keep(None, 0)?;
-        Ok(reply)
+        Ok(answer)
     }
 }

@@ -1,19 +1,21 @@
 //! Judges lines.
-ghost use Rattle.std.specs.Prelude.{◌≡◌, ℕ, IfOk, Some, false};
+ghost use Rattle.std.specs.Prelude.{◌≡◌, ℕ, IfOk, Some};
 ghost use Rattle.std.specs.Option.{option_copied};
 ghost use Rattle.pe_lines.specs.Cutting.{line_of_cut};
+ghost use Rattle.pe_events.specs.declared.answer.Answer.TheVariants as answer;
+ghost use Rattle.pe_events.specs.declared.cause.Cause.TheVariants as cause;
 ghost use Rattle.pe_rules.specs.History.{History, RepliedHistory};
-ghost use Rattle.pe_output.specs.Built.{reading_built};
+ghost use Rattle.pe_script.specs.Answering.{told};
+ghost use Rattle.pe_output.specs.Built.{is_built, reading_built};
 ghost use Rattle.pe_session.specs.Judging.{Stands, Judged};
 ghost use Rattle.pe_session.specs.Keeping.{Keeps};
-ghost use Rattle.pe_session.specs.Replying.{AnswersWords, AnswersReading};
-ghost use Rattle.pe_session.specs.Saying.{is_silent, event_built};
+ghost use Rattle.pe_session.specs.Replying.{is_refusal, AnswersEvent, AnswersReading};
+ghost use Rattle.pe_session.specs.Saying.{has_options};
 
 use crate::events::Events;
-use crate::reading::{Said, is_silent, read_words};
-use crate::reply::{Reply, put_reply};
-use pe_events::Cause;
-use pe_lines::{Cut, Text, Word, WordFault, words};
+use pe_events::{Answer, Cause, Event, Stamped, put_answer};
+use pe_lines::{Cut, Text};
+use pe_script::{LineFault, read_event};
 use std::alloc::AllocError;
 
 /// Judges the line of this number, puts its text behind the others, and answers whether it is refused.
@@ -26,73 +28,115 @@ pub fn judge(
     ensures ok { (duration : ℕ) (H : History) → Stands duration events.old H → IfOk result (λ refused.
         Judged duration events.new number H (line_of_cut line.entry) out.old.items out.new.items refused) }
 {
-    match line {
-        Cut::TooLong => {
-            let reply = Reply::Refused {
-                cause: Cause::LineTooLong,
-            };
-            put_reply(events.alloc, number, &reply, out)?;
-            Ok(true)
-        }
-        Cut::Bytes(line) => {
-            if is_silent(line) {
-                return Ok(false);
-            }
-            let reply = answer(events, line)?;
-            put_reply(events.alloc, number, &reply, out)?;
-            Ok(reply.is_refused())
-        }
-    }
+    let Some(answer) = answer_line(events, line)? else {
+        return Ok(false);
+    };
+    put_answer(number, &answer, out)?;
+    Ok(is_refusal(&answer))
 }
 
-/// What a line is answered that is neither blank nor a comment.
-fn answer(events: &mut Events, line: &[u8]) -> Result<Reply, AllocError>
-    requires { is_silent line.now ≡ false }
+/// Whether the answer is a refusal.
+fn is_refusal(answer: &Answer) -> bool
+    ensures { result ≡ is_refusal answer.now }
+{
+    matches!(answer, Answer::Refused { .. })
+}
+
+/// What a line is answered; None for one that is blank or a comment.
+fn answer_line(events: &mut Events, line: Cut<'_>) -> Result<Option<Answer>, AllocError>
     ensures { (duration : ℕ) (T : RepliedHistory) → Keeps events.old T
-        → IfOk result (AnswersReading duration T (reading_built (Some line.now)) events.new) }
+        → IfOk result (AnswersReading duration T (reading_built (line_of_cut line.entry)) events.new) }
 {
-    match words(events.alloc, line) {
-        Ok(words) => answer_words(events, &words),
-        Err(WordFault::BadByte) => Ok(Reply::Refused {
-            cause: Cause::BadByte,
-        }),
-        Err(WordFault::Syntax) => Ok(Reply::Refused {
-            cause: Cause::Syntax,
-        }),
-        Err(WordFault::Memory) => Err(AllocError),
+    let line = match line {
+        Cut::TooLong => return Ok(Some(Answer::Refused { cause: Cause::LineTooLong })),
+        Cut::Bytes(line) => line,
+    };
+    match read_event(events.alloc, line) {
+        Ok(Some(stamped)) => {
+            let answer = answer_event(events, &stamped)?;
+            Ok(Some(answer))
+        }
+        Ok(None) => Ok(None),
+        Err(LineFault::BadByte) => Ok(Some(Answer::Refused { cause: Cause::BadByte })),
+        Err(LineFault::Syntax) => Ok(Some(Answer::Refused { cause: Cause::Syntax })),
+        Err(LineFault::Memory) => Err(AllocError),
     }
 }
 
-/// The bytes of a header, where there is one.
-fn header_bytes<'a>(header: &'a Option<Text<'_>>) -> Option<&'a [u8]>
-    ensures { option_copied result ≡ header.now }
+/// The bytes of a text, where there is one.
+fn bytes_of<'a>(text: &'a Option<Text<'_>>) -> Option<&'a [u8]>
+    ensures { option_copied result ≡ text.now }
 {
-    match header {
+    match text {
         Some(text) => Some(text.as_slice()),
         None => None,
     }
 }
 
-/// What the words of a line are answered.
-fn answer_words(events: &mut Events, words: &[Word<'_>]) -> Result<Reply, AllocError>
-    ensures { (duration : ℕ) (T : RepliedHistory) → Keeps events.old T
-        → IfOk result (AnswersWords duration T (event_built words.now) events.new) }
+/// Whether some option but headers stands.
+fn has_options(
+    place: &Option<Text<'_>>,
+    allow: &Option<Text<'_>>,
+    sandbox: &Option<Text<'_>>,
+    fullscreen: bool,
+    srcdoc: bool,
+) -> bool
+    ensures { result ≡ has_options place.now allow.now sandbox.now fullscreen srcdoc }
 {
-    match read_words(events.alloc, words) {
-        Ok(Some(Said::Open { url, header })) => events.open(url, header_bytes(&header)),
-        Ok(
-            Some(
-                Said::Embed {
-                    parent,
-                    url,
-                    header,
-                },
-            ),
-        ) => events.embed(parent, url, header_bytes(&header)),
-        Ok(Some(Said::Policy { frame, name })) => events.policy(frame, name),
-        Ok(None) => Ok(Reply::Refused {
-            cause: Cause::Syntax,
-        }),
-        Err(AllocError) => Err(AllocError),
+    place.is_some() || allow.is_some() || sandbox.is_some() || fullscreen || srcdoc
+}
+
+/// What an event is answered. One that is not built yet is refused as no line of the grammar.
+fn answer_event(events: &mut Events, stamped: &Stamped<'_>) -> Result<Answer, AllocError>
+    ensures { (duration : ℕ) (T : RepliedHistory) → Keeps events.old T
+        → IfOk result (AnswersEvent duration T (is_built (told stamped.now)) (told stamped.now) events.new) }
+{
+    if stamped.time != 0 {
+        return Ok(not_built());
+    }
+    match &stamped.event {
+        Event::OpenPage { url, header } => events.open(url.as_slice(), bytes_of(header)),
+        Event::Embed {
+            parent,
+            src: Some(src),
+            place,
+            allow,
+            sandbox,
+            fullscreen,
+            srcdoc,
+            header,
+        } => {
+            if has_options(place, allow, sandbox, *fullscreen, *srcdoc) {
+                return Ok(not_built());
+            }
+            events.embed(*parent, src.as_slice(), bytes_of(header))
+        }
+        Event::PolicyOf { frame, feature } => events.policy(*frame, feature.as_slice()),
+        Event::Embed { src: None, .. }
+        | Event::Navigate { .. }
+        | Event::Attr { .. }
+        | Event::Close { .. }
+        | Event::Input { .. }
+        | Event::Ask { .. }
+        | Event::History { .. }
+        | Event::Features { .. }
+        | Event::UseCall { .. }
+        | Event::Query { .. }
+        | Event::DropStatus { .. }
+        | Event::Request { .. }
+        | Event::Answered { .. }
+        | Event::SetState { .. }
+        | Event::Post { .. }
+        | Event::Deliver { .. }
+        | Event::Tick => Ok(not_built()),
+    }
+}
+
+/// What a line is answered that is not built yet.
+fn not_built() -> Answer
+    ensures { result ≡ answer.Refused cause.Syntax }
+{
+    Answer::Refused {
+        cause: Cause::Syntax,
     }
 }

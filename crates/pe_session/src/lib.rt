@@ -3,11 +3,7 @@
 
 mod events;
 mod frame;
-mod headers;
 mod judging;
-mod numerals;
-mod reading;
-mod reply;
 mod run;
 mod serving;
 mod session;

@@ -21,11 +21,11 @@ ghost use Rattle.pe_output.specs.Built.{built_text, built_refuses};
 ghost use Rattle.pe_session.specs.Outcome.{Wrote, IsWholeStatus, IsCutStatus, says_refused, AppendsPrefix};
 ghost use Rattle.pe_session.specs.Words.{duration_asked, duration_of, Explains};
 
-use crate::numerals::positive;
 use crate::run::run_within;
 use crate::status::Status;
 use pe_base::{DURATION_LIMIT, INPUT_LIMIT};
 use pe_io::{Sink, Source, write_whole};
+use pe_script::positive;
 use std::alloc::Global;
 
 /// The duration of transient activation in milliseconds, where the words name none.
@@ -40,10 +40,10 @@ fn duration_of(word: &str) -> Option<u32>
     ensures range { IfSome result (λ ms. (1 ≤ ms) × (ms ≤ 60000)) }
 {
     let ms = positive(word.as_bytes(), 5)?;
-    if ms < 1 || ms > DURATION_LIMIT {
+    if ms < 1 || ms > u64::from(DURATION_LIMIT) {
         return None;
     }
-    Some(ms)
+    Some(ms as u32)
 }
 
 /// The duration that the words ask a run with.
