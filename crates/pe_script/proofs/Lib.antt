@@ -2,3 +2,4 @@ pub mod OnLiterals
 mod Digits
 mod Tables
 mod OptionWords
+mod VerbWords

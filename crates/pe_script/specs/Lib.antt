@@ -4,3 +4,4 @@ pub mod Verbs
 pub mod Reading
 pub mod Taking
 pub mod OptionSteps
+pub mod Readers

@@ -4,4 +4,5 @@
 mod names;
 mod numerals;
 mod options;
+mod verbs;
 mod words;
