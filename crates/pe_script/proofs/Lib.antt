@@ -3,3 +3,5 @@ mod Digits
 mod Tables
 mod OptionWords
 mod VerbWords
+mod Fits
+mod LineReadings

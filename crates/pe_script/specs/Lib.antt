@@ -5,3 +5,4 @@ pub mod Reading
 pub mod Taking
 pub mod OptionSteps
 pub mod Readers
+pub mod Answering
