@@ -4,3 +4,5 @@ pub mod Verbs
 pub mod Reading
 pub mod Taking
 pub mod OptionSteps
+pub mod Readers
+pub mod Answering

@@ -4,4 +4,8 @@
 mod names;
 mod numerals;
 mod options;
+mod reading;
+mod verbs;
 mod words;
+
+pub use reading::{LineFault, read_event};

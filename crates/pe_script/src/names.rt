@@ -1,11 +1,13 @@
 //! The keywords of a script line, and the bare words that they are.
-ghost use Rattle.std.specs.Prelude.{◌≡◌, bytes_eq, find, map};
+ghost use Rattle.std.specs.Prelude.{◌≡◌, bytes_eq, find, map, option_map};
 ghost use Rattle.std.specs.Option.{option_copied};
 ghost use Rattle.pe_script.specs.Numerals.{bare};
 ghost use Rattle.pe_script.specs.Names.{is_keyword, named_in, input_kinds, states, attribute_names, keyword_in};
+ghost use Rattle.pe_script.specs.Verbs.{lasting_outcomes, text_unless, verbs};
+ghost use Rattle.pe_script.specs.Readers.{reader_of};
 
 use pe_base::{InputKind, State};
-use pe_events::AttrName;
+use pe_events::{AttrName, Outcome};
 use pe_lines::{Text, Word};
 
 /// The kinds of input.
@@ -38,6 +40,78 @@ const ATTRIBUTE_NAMES: [(&str, AttrName); 5] = [
     ("allow", AttrName::Allow),
     ("sandbox", AttrName::Sandbox),
     ("fullscreen", AttrName::Fullscreen),
+];
+
+/// The outcomes that have a life.
+const LASTING_OUTCOMES: [(&str, Outcome); 2] = [
+    ("allow", Outcome::Allow),
+    ("block", Outcome::Block),
+];
+
+/// The verbs.
+#[derive(Clone, Copy)]
+pub enum Verb {
+    /// A page is opened.
+    Open,
+    /// A frame is embedded.
+    Embed,
+    /// A frame is navigated.
+    Nav,
+    /// An attribute is set or removed.
+    Attr,
+    /// A frame is closed.
+    Close,
+    /// The user gives an input.
+    Input,
+    /// The activation is asked for.
+    State,
+    /// A history action is taken.
+    History,
+    /// It is asked whether a feature is allowed.
+    Policy,
+    /// The allowed features are asked for.
+    Features,
+    /// A call is made.
+    Use,
+    /// A permission is queried.
+    Query,
+    /// A status object is dropped.
+    Drop,
+    /// A permission is requested.
+    Request,
+    /// A prompt is answered.
+    Answer,
+    /// A permission is set.
+    Set,
+    /// A message is posted.
+    Post,
+    /// A message is delivered.
+    Deliver,
+    /// Time goes on.
+    Tick,
+}
+
+/// The names of the verbs.
+const VERBS: [(&str, Verb); 19] = [
+    ("open", Verb::Open),
+    ("embed", Verb::Embed),
+    ("nav", Verb::Nav),
+    ("attr", Verb::Attr),
+    ("close", Verb::Close),
+    ("input", Verb::Input),
+    ("state", Verb::State),
+    ("history", Verb::History),
+    ("policy", Verb::Policy),
+    ("features", Verb::Features),
+    ("use", Verb::Use),
+    ("query", Verb::Query),
+    ("drop", Verb::Drop),
+    ("request", Verb::Request),
+    ("answer", Verb::Answer),
+    ("set", Verb::Set),
+    ("post", Verb::Post),
+    ("deliver", Verb::Deliver),
+    ("tick", Verb::Tick),
 ];
 
 /// The text of a bare word, as it stands in the word.
@@ -106,4 +180,28 @@ pub fn attribute_name(word: &Word<'_>) -> Option<AttrName>
     ensures { result ≡ keyword_in attribute_names word.now }
 {
     named_in(&ATTRIBUTE_NAMES, bare(word)?)
+}
+
+/// The outcome with a life that a bare word names.
+pub fn lasting_outcome(word: &Word<'_>) -> Option<Outcome>
+    ensures { result ≡ keyword_in lasting_outcomes word.now }
+{
+    named_in(&LASTING_OUTCOMES, bare(word)?)
+}
+
+/// The verb that a bare word names.
+pub fn verb_named(word: &Word<'_>) -> Option<Verb>
+    ensures { option_map reader_of result ≡ keyword_in verbs word.now }
+{
+    named_in(&VERBS, bare(word)?)
+}
+
+/// The text of a word, or none for a bare keyword that stands for its absence.
+pub fn text_unless<'a>(keyword: &[u8], word: Word<'a>) -> Option<Text<'a>>
+    ensures { result ≡ text_unless keyword.now word.entry }
+{
+    if is_keyword(&word, keyword) {
+        return None;
+    }
+    Some(word.text)
 }
