@@ -8,4 +8,5 @@ mod reading;
 mod verbs;
 mod words;
 
+pub use numerals::positive;
 pub use reading::{LineFault, read_event};

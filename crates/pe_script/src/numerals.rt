@@ -51,7 +51,7 @@ fn number_of(digits: &[u8]) -> u64
 
 /// The number above 0 that at most so many decimal digits write, without a leading zero.
 #[tactic(auto, using(crate::proofs::Digits::all_digits), unfolding(crate::specs::Numerals::positive))]
-fn positive(digits: &[u8], most: usize) -> Option<u64>
+pub fn positive(digits: &[u8], most: usize) -> Option<u64>
     requires { most ≤ 13 }
     ensures { result ≡ positive most digits.now }
 {

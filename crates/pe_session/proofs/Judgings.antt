@@ -13,12 +13,12 @@ use Rattle.pe_rules.specs.Causes.{cause_of}
 use Rattle.pe_rules.specs.Changes.{numbers_above, changes_before, changes_after}
 use Rattle.pe_rules.specs.Statuses.{live_statuses}
 use Rattle.pe_rules.specs.Replies.{replied, step_answer, accepts_in, reply_in, answer_of}
-use Rattle.pe_output.specs.Built.{is_built, as_built, reading_built}
+use Rattle.pe_output.specs.Built.{reading_built}
 use Rattle.pe_output.specs.OutputText.{event_text, line_text, history_after, history_after_line, is_refused}
 use Rattle.pe_session.specs.declared.events.Events.{Events}
 use Rattle.pe_session.specs.Keeping.{Keeps}
 use Rattle.pe_session.specs.Judging.{Stands, Judged}
-use Rattle.pe_session.specs.Replying.{step_of, is_refusal, IsRefusal, IsAcceptance, IsReply, AnswersEvent, AnswersReading}
+use Rattle.pe_session.specs.Replying.{step_of, is_refusal, IsRefusal, IsAcceptance, IsReply, AnswersReading}
 
 -- ---- what an event at time 0 brings
 
@@ -163,8 +163,3 @@ judged-some duration old events number H line out new (Says e) (Some x) said h i
 pub ok-more : {A E : Type 0} (r : Result A E) (P Q : A → Type 0) → ((x : A) → P x → Q x) → IfOk r P → IfOk r Q
 ok-more (Ok x) P Q f h = f x h
 ok-more (Err e) P Q f h = tt
-
--- an event that is built, or not, as a line that says it
-pub event-answered : (duration : ℕ) (T : RepliedHistory) (e : Timed) (events : Events) (said : Answer) (b : Bool) → is_built e ≡ b → AnswersEvent duration T b e events said → AnswersReading duration T (as_built (Says e)) events (Some said)
-event-answered duration T e events said true h a = rw h a
-event-answered duration T e events said false h a = rw h (ap Some a.0, a.1)

@@ -8,4 +8,5 @@ pub mod Framings
 pub mod Opening
 pub mod Growing
 pub mod Replies
+pub mod Answerings
 pub mod Judgings

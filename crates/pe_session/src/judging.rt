@@ -48,19 +48,33 @@ fn answer_line(events: &mut Events, line: Cut<'_>) -> Result<Option<Answer>, All
         → IfOk result (AnswersReading duration T (reading_built (line_of_cut line.entry)) events.new) }
 {
     let line = match line {
-        Cut::TooLong => return Ok(Some(Answer::Refused { cause: Cause::LineTooLong })),
+        Cut::TooLong => return Ok(Some(Answer::Refused {
+            cause: Cause::LineTooLong,
+        })),
         Cut::Bytes(line) => line,
     };
     match read_event(events.alloc, line) {
         Ok(Some(stamped)) => {
-            let answer = answer_event(events, &stamped)?;
+            let answer = answer_said(events, stamped)?;
             Ok(Some(answer))
         }
         Ok(None) => Ok(None),
-        Err(LineFault::BadByte) => Ok(Some(Answer::Refused { cause: Cause::BadByte })),
-        Err(LineFault::Syntax) => Ok(Some(Answer::Refused { cause: Cause::Syntax })),
+        Err(LineFault::BadByte) => Ok(Some(Answer::Refused {
+            cause: Cause::BadByte,
+        })),
+        Err(LineFault::Syntax) => Ok(Some(Answer::Refused {
+            cause: Cause::Syntax,
+        })),
         Err(LineFault::Memory) => Err(AllocError),
     }
+}
+
+/// What an event that was read is answered.
+fn answer_said(events: &mut Events, stamped: Stamped<'_>) -> Result<Answer, AllocError>
+    ensures { (duration : ℕ) (T : RepliedHistory) → Keeps events.old T
+        → IfOk result (AnswersEvent duration T (is_built (told stamped.entry)) (told stamped.entry) events.new) }
+{
+    answer_event(events, &stamped)
 }
 
 /// The bytes of a text, where there is one.
@@ -98,7 +112,7 @@ fn answer_event(events: &mut Events, stamped: &Stamped<'_>) -> Result<Answer, Al
         Event::OpenPage { url, header } => events.open(url.as_slice(), bytes_of(header)),
         Event::Embed {
             parent,
-            src: Some(src),
+            src,
             place,
             allow,
             sandbox,
@@ -109,11 +123,13 @@ fn answer_event(events: &mut Events, stamped: &Stamped<'_>) -> Result<Answer, Al
             if has_options(place, allow, sandbox, *fullscreen, *srcdoc) {
                 return Ok(not_built());
             }
+            let Some(src) = src else {
+                return Ok(not_built());
+            };
             events.embed(*parent, src.as_slice(), bytes_of(header))
         }
         Event::PolicyOf { frame, feature } => events.policy(*frame, feature.as_slice()),
-        Event::Embed { src: None, .. }
-        | Event::Navigate { .. }
+        Event::Navigate { .. }
         | Event::Attr { .. }
         | Event::Close { .. }
         | Event::Input { .. }

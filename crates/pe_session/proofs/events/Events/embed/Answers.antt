@@ -29,8 +29,8 @@ returns-then-page_size-ge-FRAME_LIMIT c = λ duration T h.
 pub returns : goal.returns
 returns c = λ duration T h.
     let (number, few) = c.in-Some.ensures.some in
-    embed-accepted duration T c.args.self.now c.keep.new.self _ _ _ c.in-Some-frame.frame.now c.in_ok-child.child c.in-Ok.place c.in-Some.number c.in_ok-origin.origin c.count_one.new.sizes.items
+    rw c.frame_made.ensures (embed-accepted duration T c.args.self.now c.keep.new.self _ _ _ c.in-Some-frame.frame.now c.in_ok-child.child c.in-Ok.place c.in-Some.number c.in_ok-origin.origin c.count_one.new.sizes.items
     h (omega arith) (sym c.in-Some-frame.ensures) number c.in-Ok.ensures.read
     (omega (arith, c.if-frame-ge-DEPTH_LIMIT.false)) (omega (arith, c.page_size.ensures, c.if-page_size-ge-FRAME_LIMIT.false))
     c.in_ok-child.ensures c.in_ok-origin.ensures c.count_one.ensures.len c.count_one.ensures.grown c.count_one.ensures.others
-    c.in_ok-keep.ensures.frames c.in_ok-keep.ensures.sizes c.keep.ensures.pages
+    c.in_ok-keep.ensures.frames c.in_ok-keep.ensures.sizes c.keep.ensures.pages)

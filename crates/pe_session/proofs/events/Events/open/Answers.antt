@@ -18,5 +18,5 @@ returns-then-self-ge-PAGE_LIMIT c = λ duration T h.
 pub returns : goal.returns
 returns c = λ duration T h.
     let (number, few) = c.in-Some.ensures.some in
-    open-accepted duration T c.args.self.now _ _ _ c.in-Ok.place c.in-Some.number c.in_ok-origin.origin c.in_ok-frame.frame h (omega arith) number c.in-Ok.ensures.read (omega (arith, c.if-self-ge-PAGE_LIMIT.false))
-    c.in_ok-frame.ensures c.in_ok-origin.ensures c.in_ok-keep.ensures.frames c.in_ok-keep.ensures.sizes (ap (λ n. n + 1) c.keep.ensures.pages)
+    rw c.frame_made.ensures (open-accepted duration T c.args.self.now _ _ _ c.in-Ok.place c.in-Some.number c.in_ok-origin.origin c.in_ok-frame.frame h (omega arith) number c.in-Ok.ensures.read (omega (arith, c.if-self-ge-PAGE_LIMIT.false))
+    c.in_ok-frame.ensures c.in_ok-origin.ensures c.in_ok-keep.ensures.frames c.in_ok-keep.ensures.sizes (ap (λ n. n + 1) c.keep.ensures.pages))

@@ -20,4 +20,4 @@ returns c = λ duration T h.
     let (number, few) = c.in-Some.ensures.some in
     let (named, controlled) = c.in-Some-controlled.ensures.some in
     policy-replied duration T c.args.self.now _ _ _ c.in-Some-frame.frame.now c.in-Some-controlled.feature c.why.result _ h (omega arith) (sym c.in-Some-frame.ensures) named controlled
-    c.why.ensures.first c.of_policy-reply.ensures c.in_ok-keep.ensures.frames c.in_ok-keep.ensures.sizes c.keep.ensures.pages
+    c.why.ensures.first c.by_denial-answer.ensures c.in_ok-keep.ensures.frames c.in_ok-keep.ensures.sizes c.keep.ensures.pages
