@@ -9,3 +9,6 @@ mod verbs;
 mod words;
 
 pub use reading::{LineFault, read_event};
+
+#[cfg(test)]
+mod tests;
