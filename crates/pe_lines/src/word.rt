@@ -36,6 +36,9 @@ pub enum WordFault {
     Memory,
 }
 
+/// How many words there is room for before the list of words grows. Few lines have more.
+const WORDS_AHEAD: usize = 8;
+
 /// Whether the byte is a space or a tab.
 fn is_blank(byte: u8) -> bool
     ensures { result ≡ is_blank byte }
@@ -237,7 +240,9 @@ fn words_of<'a>(alloc: Global, line: &'a [u8]) -> Result<Vec<Word<'a>>, WordFaul
     ensures syntax { IsErrOf result WordFault.Syntax → words_of line.now ≡ None }
     ensures no_bad_byte { ¬ IsErrOf result WordFault.BadByte }
 {
-    let mut words = Vec::new(alloc);
+    let Ok(mut words) = Vec::with_capacity(alloc, WORDS_AHEAD) else {
+        return Err(WordFault::Memory);
+    };
     let mut at = 0;
     while at < line.len() {
         if is_blank(line[at]) {

@@ -10,3 +10,6 @@ mod words;
 
 pub use numerals::positive;
 pub use reading::{LineFault, read_event};
+
+#[cfg(test)]
+mod tests;
