@@ -57,7 +57,7 @@ chain-is (s ∷ T) d m h = by_test (d == suc (length T)) refl (chain-is T d m)
 -- ---- the documents of a chain
 
 -- one of a list with one more at its end
-one-at-end : (xs : List ℕ) (x k : ℕ) → is_one_of (xs ++ x ∷ []) k ≡ true → (is_one_of xs k ≡ true) ⊎ (x ≡ k)
+pub one-at-end : (xs : List ℕ) (x k : ℕ) → is_one_of (xs ++ x ∷ []) k ≡ true → (is_one_of xs k ≡ true) ⊎ (x ≡ k)
 one-at-end [] x k h = by_test (x == k) refl h
   where
     by_test : (b : Bool) → (x == k) ≡ b → (b || false) ≡ true → (false ≡ true) ⊎ (x ≡ k)

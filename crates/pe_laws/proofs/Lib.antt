@@ -15,5 +15,6 @@ pub mod PromptsTold
 pub mod PendingPrompts
 pub mod Causes
 pub mod Shown
+pub mod Tree
 pub mod Origins
 pub mod Effects

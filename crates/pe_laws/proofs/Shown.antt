@@ -65,7 +65,7 @@ regular-names duration (e ∷ H) h =
 
 -- ---- a frame that has a document was made
 
-some-of : {A : Type 0} (o : Option A) → is_some o ≡ true → (x : A) × (o ≡ Some x)
+pub some-of : {A : Type 0} (o : Option A) → is_some o ≡ true → (x : A) × (o ≡ Some x)
 some-of None h = cc
 some-of (Some x) h = (x, refl)
 
@@ -120,7 +120,7 @@ one-at-end [] x = rw (is_same x) refl
 one-at-end (y ∷ xs) x = rw (one-at-end xs x) (or-true (y == x))
 
 -- the frame of a document is one of those of its chain
-own-frame : (T : RepliedHistory) (d : ℕ) (m : Making) → making T d ≡ Some m → list_any (λ f. f == frame_of T d) (frames_above T d) ≡ true
+pub own-frame : (T : RepliedHistory) (d : ℕ) (m : Making) → making T d ≡ Some m → list_any (λ f. f == frame_of T d) (frames_above T d) ≡ true
 unfolding frames_above
 own-frame T d m h = rw (chain-is T d m h, map-append (frame_of T) (chain_above T m) (d ∷ [])) (one-at-end (map (frame_of T) (chain_above T m)) (frame_of T d))
 

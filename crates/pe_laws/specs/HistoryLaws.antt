@@ -12,6 +12,7 @@ use Rattle.pe_laws.specs.OriginsLaws.{OriginsLaws}
 use Rattle.pe_laws.specs.PromptsLaws.{PromptsLaws}
 use Rattle.pe_laws.specs.SettingsLaws.{SettingsLaws}
 use Rattle.pe_laws.specs.StepLaws.{StepLaws}
+use Rattle.pe_laws.specs.TreeLaws.{TreeLaws}
 
 -- what holds of every history
 pub record HistoryLaws : Type 0 where
@@ -21,6 +22,7 @@ pub record HistoryLaws : Type 0 where
   pub making : MakingLaws
   pub embedders : EmbeddersLaws
   pub current : CurrentLaws
+  pub tree : TreeLaws
   pub origins : OriginsLaws
   pub denials : DenialsLaws
   pub settings : SettingsLaws

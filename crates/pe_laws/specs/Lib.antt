@@ -16,3 +16,4 @@ pub mod PendingPrompts
 pub mod PromptsLaws
 pub mod SettingsLaws
 pub mod StepLaws
+pub mod TreeLaws

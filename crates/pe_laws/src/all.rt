@@ -3,6 +3,7 @@ ghost use Rattle.pe_laws.specs.HistoryLaws.{HistoryLaws};
 
 use crate::documents::{
     attributes_laws, current_laws, denials_laws, embedders_laws, making_laws, origins_laws,
+    tree_laws,
 };
 use crate::permissions::{changes_laws, prompts_laws, settings_laws};
 use crate::positions::{causes_laws, effects_laws, numbering_laws, step_laws};
@@ -18,6 +19,7 @@ pub fn history_laws()
     making_laws();
     embedders_laws();
     current_laws();
+    tree_laws();
     origins_laws();
     denials_laws();
     settings_laws();

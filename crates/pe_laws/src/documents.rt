@@ -4,6 +4,7 @@ ghost use Rattle.pe_laws.specs.MakingLaws.{MakingLaws};
 ghost use Rattle.pe_laws.specs.EmbeddersLaws.{EmbeddersLaws};
 ghost use Rattle.pe_laws.specs.CurrentLaws.{CurrentLaws};
 ghost use Rattle.pe_laws.specs.OriginsLaws.{OriginsLaws};
+ghost use Rattle.pe_laws.specs.TreeLaws.{TreeLaws};
 ghost use Rattle.pe_laws.specs.DenialsLaws.{DenialsLaws};
 
 use pe_policy::denials_are_by_value;
@@ -26,6 +27,11 @@ pub fn embedders_laws()
 /// What holds of current documents and live frames.
 pub fn current_laws()
     ensures { CurrentLaws }
+{}
+
+/// What holds of the tree of live frames.
+pub fn tree_laws()
+    ensures { TreeLaws }
 {}
 
 /// What holds of origins, sandbox flags and secure contexts.

@@ -10,6 +10,7 @@ mod positions;
 pub use all::history_laws;
 pub use documents::{
     attributes_laws, current_laws, denials_laws, embedders_laws, making_laws, origins_laws,
+    tree_laws,
 };
 pub use permissions::{changes_laws, prompts_laws, settings_laws};
 pub use positions::{causes_laws, effects_laws, numbering_laws, step_laws};

@@ -8,6 +8,7 @@ returns c = record {
   making = c.making_laws.ensures;
   embedders = c.embedders_laws.ensures;
   current = c.current_laws.ensures;
+  tree = c.tree_laws.ensures;
   origins = c.origins_laws.ensures;
   denials = c.denials_laws.ensures;
   settings = c.settings_laws.ensures;
