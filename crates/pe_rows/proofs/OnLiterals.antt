@@ -26,6 +26,7 @@ use Rattle.pe_policy.specs.Links.{pair_test, own_test}
 use Rattle.pe_store.specs.Pairs.{is_same_pair}
 use Rattle.pe_events.specs.Texts.{answer_words, answer_text, change_text}
 use Rattle.pe_script.specs.Numerals.{number_of, positive, time_of, span_of, named_by, object}
+use Rattle.pe_script.specs.OptionSteps.{options_from}
 use Rattle.pe_script.specs.Reading.{timed_of, reading_of}
 use Rattle.pe_script.specs.Verbs.{options, headers, event_of}
 use Rattle.pe_rules.specs.Activation.{reaches, activates, activated_count, consumes, last_activation, is_consumed_since, has_sticky, has_transient, stamp_of}
@@ -54,5 +55,5 @@ use Rattle.pe_output.specs.OutputText.{event_text, history_after, line_text, his
 
 -- every word that the definitions are made of
 unfoldable pub output_on_literals : ⊤
-unfolding url_on_literals is_utf8 digits lines ended_lines told_lines told_ended_lines filler has_bad_byte is_blank_line is_comment words_of last_of each key_at number_at text_at binary_at bare_at given_at param_at params_at item_at next_item_at items_at inner_at listed_at value_at member_at next_member_at members_of dictionary tuple_of place_of place_at scheme_named gate_of call_named capability_named feature_named matches pieces_at ascii_words with_word list_by_pieces container_policy tuple_at separator_at without_star expression_at lists_of with_bare list_of_value declared_policy first_failing denial failing_at row_of child_value inherited_below inherited_value value_for pair_test own_test is_same_pair answer_words answer_text change_text number_of positive time_of span_of named_by object timed_of reading_of options headers event_of reaches activates activated_count consumes last_activation is_consumed_since has_sticky has_transient stamp_of attribute attributes_of names_unknown names_settled names_closed names_not_shown has_bad_url has_bad_feature has_bad_call has_bad_capability names_other_page live_pages live_frames page_statuses found joining exceeds_pages exceeds_depth exceeds_frames exceeds_statuses exceeds_pending entries exceeds_store cause_of numbers_above change_at changes_at changes_before change_between changes_after frames_above is_current document_in is_live message is_message_settled waiting_messages last_delivery is_spent_since has_delegated declared_lists container_in container_lists link links why_denied is_allowed chain top_document page page_of_frame depth clock newest each_of_History each_newest step_at since consumes_history second_stamp_of has_history_activation inherited is_enabled_for is_enabled making_by making along frame_of is_foreign muted_event muted is_frame is_status is_prompt is_message frames_made documents_made last_document parent_frame place_or_none sandboxes_origin sandbox_flag origin_of declared_origin is_secure permission_state requests is_settled waiting is_pending pending shown joined post_reason by_message new_origin answer_of verdict_told told reply_in accepts_in reply accepts is_regular key_for pair_for prompt_pair prompt_page setting_named holds stored_by counts after_unnamed after_step standing_of last_setting dismissals embargo_for setting_by stored has_entry is_live_status live_statuses permission_reason is_met_by_delegated reason_denied verdict_of is_built reading_built built_text built_ended_text built_refuses event_text history_after line_text history_after_line is_refused text_from refuses_from output_text ended_text refuses_some
+unfolding url_on_literals is_utf8 digits lines ended_lines told_lines told_ended_lines filler has_bad_byte is_blank_line is_comment words_of last_of each key_at number_at text_at binary_at bare_at given_at param_at params_at item_at next_item_at items_at inner_at listed_at value_at member_at next_member_at members_of dictionary tuple_of place_of place_at scheme_named gate_of call_named capability_named feature_named matches pieces_at ascii_words with_word list_by_pieces container_policy tuple_at separator_at without_star expression_at lists_of with_bare list_of_value declared_policy first_failing denial failing_at row_of child_value inherited_below inherited_value value_for pair_test own_test is_same_pair answer_words answer_text change_text number_of positive time_of span_of named_by object options_from timed_of reading_of options headers event_of reaches activates activated_count consumes last_activation is_consumed_since has_sticky has_transient stamp_of attribute attributes_of names_unknown names_settled names_closed names_not_shown has_bad_url has_bad_feature has_bad_call has_bad_capability names_other_page live_pages live_frames page_statuses found joining exceeds_pages exceeds_depth exceeds_frames exceeds_statuses exceeds_pending entries exceeds_store cause_of numbers_above change_at changes_at changes_before change_between changes_after frames_above is_current document_in is_live message is_message_settled waiting_messages last_delivery is_spent_since has_delegated declared_lists container_in container_lists link links why_denied is_allowed chain top_document page page_of_frame depth clock newest each_of_History each_newest step_at since consumes_history second_stamp_of has_history_activation inherited is_enabled_for is_enabled making_by making along frame_of is_foreign muted_event muted is_frame is_status is_prompt is_message frames_made documents_made last_document parent_frame place_or_none sandboxes_origin sandbox_flag origin_of declared_origin is_secure permission_state requests is_settled waiting is_pending pending shown joined post_reason by_message new_origin answer_of verdict_told told reply_in accepts_in reply accepts is_regular key_for pair_for prompt_pair prompt_page setting_named holds stored_by counts after_unnamed after_step standing_of last_setting dismissals embargo_for setting_by stored has_entry is_live_status live_statuses permission_reason is_met_by_delegated reason_denied verdict_of is_built reading_built built_text built_ended_text built_refuses event_text history_after line_text history_after_line is_refused text_from refuses_from output_text ended_text refuses_some
 output_on_literals = tt
