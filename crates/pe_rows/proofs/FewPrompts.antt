@@ -1,0 +1,8 @@
+-- The output text of a script, from its bytes to the bytes of the output. Written by tools/rows.
+use Rattle.std.proofs.Common.{◌≡◌, [], ◌∷◌, ◌++◌, codes, refl}
+use Rattle.pe_output.specs.OutputText.{output_text}
+use Rattle.pe_rows.proofs.OnLiterals.{output_on_literals}
+
+pub row_FewPrompts : output_text 5000 (codes "0 open https://a.example/" ++ (10 ∷ (codes "0 embed f1 https://n2.example/" ++ (10 ∷ (codes "0 embed f1 https://n3.example/" ++ (10 ∷ (codes "0 request f1 storage-access" ++ (10 ∷ (codes "0 request f2 storage-access" ++ (10 ∷ (codes "0 request f3 storage-access" ++ (10 ∷ (codes "0 request f1 camera" ++ (10 ∷ (codes "0 request f1 storage-access" ++ (10 ∷ (codes "0 answer p5 block" ++ (10 ∷ (codes "0 answer p4 block" ++ (10 ∷ (codes "0 answer p5 block" ++ (10 ∷ [])))))))))))))))))))))) ≡ codes "1 frame f1 doc d1 https://a.example" ++ (10 ∷ (codes "2 frame f2 doc d2 https://n2.example" ++ (10 ∷ (codes "3 frame f3 doc d3 https://n3.example" ++ (10 ∷ (codes "4 prompt p4" ++ (10 ∷ (codes "5 prompt p5" ++ (10 ∷ (codes "6 prompt p6" ++ (10 ∷ (codes "7 prompt p7" ++ (10 ∷ (codes "8 joined p4" ++ (10 ∷ (codes "9 refused not-shown" ++ (10 ∷ (codes "10 settled 2 denied" ++ (10 ∷ (codes "11 settled 1 denied" ++ (10 ∷ [])))))))))))))))))))))
+unfolding output_on_literals
+row_FewPrompts = refl
