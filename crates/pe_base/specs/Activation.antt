@@ -34,6 +34,6 @@ is_same_stamp stamp.Consumed stamp.Consumed = true
 is_same_stamp (stamp.At a) (stamp.At b) = a == b
 is_same_stamp _ _ = false
 
--- history-action activation: the stamp and the second stamp, that of the last history action, differ
+-- history-action activation: the stamp and the second stamp, the copy of it that the last history action took, differ
 abbrev pub is_history_active : Stamp → Stamp → Bool
 is_history_active first second = not (is_same_stamp first second)

@@ -32,8 +32,9 @@ pub enum InputKind {
 }
 
 /// When a document was last activated (HTML Standard, "last activation timestamp", and for a second
-/// stamp "last history-action activation timestamp"). What it says of sticky, transient and
-/// history-action activation is told where activation is.
+/// stamp "last history-action activation timestamp"). A second stamp is the copy that a history action
+/// took of the first, and `Never` where none did. What stamps say of sticky, transient and history-action
+/// activation is told where activation is.
 #[derive(Clone, Copy, Debug, PartialEq, Eq)]
 pub enum Stamp {
     /// No input activated the document.

@@ -21,13 +21,13 @@ pub const STATUS_LIMIT: u32 = 256;
 /// The most pending prompts of a page.
 pub const PENDING_LIMIT: u32 = 256;
 
-/// The most messages of a page that are not delivered.
+/// The most messages of a page that no delivery settled, by delivering or dropping them.
 pub const MESSAGE_LIMIT: u32 = 256;
 
 /// The most entries of the permission store.
 pub const STORE_LIMIT: usize = 65_536;
 
-/// The latest time, and the longest life of a setting, in milliseconds.
+/// The latest time, and the longest span of a setting, in milliseconds.
 pub const TIME_LIMIT: u64 = 9_999_999_999_999;
 
 /// The longest duration of transient activation, in milliseconds.
@@ -39,8 +39,8 @@ pub const INPUT_LIMIT: u64 = 1_073_741_824;
 /// The greatest number that a script may put into the name of a frame, status, prompt or message.
 pub const NAME_LIMIT: u32 = 9_999_999;
 
-/// How many dismissals of a permission in a row are an embargo.
+/// How many dismissals of a pair of feature and key that count since its last setting are an embargo.
 pub const EMBARGO_DISMISSALS: u32 = 3;
 
-/// How long an embargo denies a permission, in milliseconds: seven days.
+/// How long an embargo denies a pair, in milliseconds: seven days.
 pub const EMBARGO_SPAN: u64 = 604_800_000;

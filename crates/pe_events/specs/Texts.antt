@@ -37,7 +37,7 @@ rule_text rule.OwnHeader = codes "own-header"
 abbrev pub denial_text : Denial → List ℕ
 denial_text denial = rule_text denial.rule ++ codes " d" ++ decimal denial.at
 
--- why a use is denied
+-- why a use, a post, a history action or a question on the policy is denied
 abbrev pub reason_text : Reason → List ℕ
 reason_text reason.Insecure = codes "insecure"
 reason_text (reason.Policy denial) = denial_text denial

@@ -40,7 +40,7 @@ pub enum Cause {
     LimitFrames,
     /// The page has 256 live statuses.
     LimitStatuses,
-    /// The page has 256 pending prompts, or 256 messages that are not delivered.
+    /// The page has 256 pending prompts, or 256 messages that no delivery settled.
     LimitPending,
     /// The store has 65,536 entries and none of the pair.
     LimitStore,

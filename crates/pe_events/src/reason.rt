@@ -1,7 +1,7 @@
-//! Why a use is denied, and how it is allowed.
+//! Why something is denied, and how a use is allowed.
 use pe_base::Denial;
 
-/// Why a use is denied.
+/// Why a use, a post, a history action or a question on the policy is denied.
 #[derive(Clone, Copy, Debug, PartialEq, Eq)]
 pub enum Reason {
     /// The document is in no secure context (W3C Secure Contexts).

@@ -1,5 +1,5 @@
 -- The table of calls: each one's name, and what it wants of the document that makes it.
--- After Secure Contexts, Permissions Policy, Permissions, "permission state", and HTML, "activation-gated APIs".
+-- After Secure Contexts, Permissions Policy, Permissions, "get the current permission state", and HTML, "APIs gated by user activation".
 -- The table is this project's own choice, and says nothing of a standard or of a browser.
 use Rattle.std.specs.Prelude.{ℕ, Bool, true, false, List, [], ◌∷◌, codes, bytes_eq, find, Option, Some, None}
 use Rattle.pe_features.specs.declared.call.Call.{Call}

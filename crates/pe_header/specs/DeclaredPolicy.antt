@@ -1,6 +1,6 @@
 -- The declared policy of a document: what its header gives each feature.
 -- Permissions Policy, sections "Permissions-Policy HTTP header field" and "process response policy";
--- RFC 8941, section 3.2. The forms of expressions are this project's own.
+-- RFC 8941, section 3.2. This project's own: the forms of expressions; that a value that is none of `*`, `self`, a string and an inner list declares nothing, where the standard gives the empty list; that a lone string counts as a list of it.
 use Rattle.std.specs.Prelude.{ℕ, List, codes, bytes_eq, Option, Some, None, unwrap_or, option_and_then, if◌then◌else◌}
 use Rattle.std.specs.List.{fold}
 use Rattle.pe_features.specs.declared.feature.Feature.{Feature}

@@ -13,7 +13,7 @@ use Rattle.pe_rules.specs.HistoryActivation.{is_allowance}
 use Rattle.pe_rules.specs.Prompts.{prompt_replied}
 use Rattle.pe_rules.specs.Delegation.{is_by_delegated, is_delivered}
 
--- which of these a step may do
+-- which of these a step may do; `sets` is by name, and what is dismissed may set an embargo too
 pub record Effects : Type 0 where
   pub makes_frame : Bool
   pub makes_document : Bool

@@ -1,5 +1,5 @@
 -- The pending prompts of a page, and what they ask for.
--- Permissions, section 3.4 "Prompt the user to choose"; that requests of one pair join one prompt is this project's own.
+-- Permissions, "request permission to use"; that requests of one pair join one prompt is this project's own.
 use Rattle.std.specs.Prelude.{◌≡◌, ℕ, IsTrue, Some}
 use Rattle.pe_rules.specs.History.{RepliedHistory}
 use Rattle.pe_rules.specs.Activation.{is_one_of}

@@ -21,7 +21,7 @@ is_same_form V4 V4 = true
 is_same_form V6 V6 = true
 is_same_form _ _ = false
 
--- the two hosts are one: of one form, and written alike
+-- the two hosts are one: of one form, and written alike; the standard compares hosts, and of a host that the parser wrote the text decides the form
 abbrev pub is_same_host : Tuple → Tuple → Bool
 is_same_host a b = is_same_form a.form b.form && bytes_eq a.host b.host
 

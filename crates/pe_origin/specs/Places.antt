@@ -1,6 +1,6 @@
 -- What the engine knows of a URL: its kind, and its tuple origin.
--- URL Standard, sections 4.4 ("basic URL parser", without a base URL) and 4.7 ("origin"), where every
--- other scheme, `blob` too, has an opaque origin; HTML Standard, "matches about:blank".
+-- URL Standard, sections 4.4 ("basic URL parser", without a base URL) and 4.7 ("origin"); HTML Standard, "matches
+-- about:blank". That every other scheme, `blob` too, has an opaque origin is this project's own.
 use Rattle.std.specs.Prelude.{ℕ, Bool, ◌&&◌, List, codes, bytes_eq, Option, Some, None, unwrap_or, Ok, Err, if◌then◌else◌}
 use Rattle.std.specs.Str.{is_utf8}
 use Rattle.url.specs.declared.host.Host.{Host}

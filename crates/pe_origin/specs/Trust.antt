@@ -1,6 +1,7 @@
 -- Which URLs are potentially trustworthy.
 -- W3C Secure Contexts, section 3.1 ("Is origin potentially trustworthy?") without the scheme `file`,
--- and section 3.2 ("Is url potentially trustworthy?") without about:srcdoc.
+-- and section 3.2 ("Is url potentially trustworthy?") without about:srcdoc. That `localhost.` and names below it
+-- are not trusted, and no `blob:` URL, whatever its inner origin, is this project's own.
 use Rattle.std.specs.Prelude.{ℕ, Bool, true, false, ◌||◌, List, codes, bytes_eq, nat_eq, Option, Some, None}
 use Rattle.std.specs.List.{starts_with, ends_with}
 use Rattle.pe_origin.specs.declared.scheme.Scheme.{Scheme}

@@ -65,7 +65,7 @@ names_settled T (event.Answered prompt out given) = is_settled T prompt
 names_settled T (event.Deliver message) = is_message_settled T message
 names_settled T e = false
 
--- the named status is not live, or no document waits for the named prompt
+-- the named status is not live, or no request waits for the named prompt
 abbrev pub names_closed_object : RepliedHistory → Event → Bool
 names_closed_object T (event.DropStatus status) = not (list_any (λ x. x.number == status) (live_statuses T))
 names_closed_object T (event.Answered prompt out given) = length (waiting T prompt) == 0
@@ -206,7 +206,7 @@ exceeds_pending T now (event.Request frame feature) = is_prompt_state (state_fou
 exceeds_pending T now (event.Post sender target named capability) = nat_le MESSAGE_LIMIT (count_in_page T sender (waiting_messages T))
 exceeds_pending T now e = false
 
--- the pair was set again after position k
+-- the pair was set again, by name or by an embargo, after position k
 abbrev pub is_set_since : RepliedHistory → ℕ → Pair → Bool
 is_set_since T k pair = is_some (newest_answer (λ s B. option_and_then (λ x. some_if (is_same_pair x.pair pair && nat_lt k (length (s ∷ B))) k) (setting_by s.time s.event B)) T)
 

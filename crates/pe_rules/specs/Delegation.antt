@@ -1,5 +1,5 @@
 -- Delegating messages, and the capabilities that documents hold by them.
--- Capability Delegation, "delegating capability", in outline.
+-- HTML Standard, "window post message steps", with Capability Delegation in outline.
 -- The tests and their order, and that a capability lasts for the duration until a use spends it, are this project's own.
 use Rattle.std.specs.Prelude.{ℕ, ◌+◌, Bool, true, false, not, ◌&&◌, ◌==◌, nat_lt, List, ◌∷◌, length, filter, Option, None, is_some, unwrap_or, option_map, option_and_then}
 use Rattle.pe_features.specs.declared.capability.Capability.{Capability}
@@ -80,7 +80,7 @@ is_by_delegated item = false
 abbrev pub is_call_of : List ℕ → Capability → Bool
 is_call_of name capability = unwrap_or (option_map (is_same_capability capability) (option_and_then (λ call. (gate_of call).capability) (call_named name))) false
 
--- the event, of which this was told, spends the capability of the frame's document
+-- the event, of which this was told, spends the capability of the frame's document; the frame is enough, since a document that is current is that of its frame from its making on
 abbrev pub spends : Event → StepAnswer → ℕ → Capability → Bool
 spends (event.UseCall frame call) item f capability = is_by_delegated item && frame == f && is_call_of call capability
 spends e item f capability = false

@@ -1,5 +1,5 @@
 -- Why a document is denied a policy-controlled feature: the first failing test along its chain of embedders.
--- Permissions Policy, "define an inherited policy for feature in container at origin", "is feature enabled in document for origin".
+-- Permissions Policy, "define an inherited policy for feature in container at origin", "is feature enabled in document for origin"; HTML Standard, "allowed to use".
 -- The tests are those of links, applied to the chain of the history; their order is this project's own.
 use Rattle.std.specs.Prelude.{ℕ, Bool, ◌&&◌, List, map, Option, is_none, unwrap_or, option_map, option_and_then}
 use Rattle.pe_base.specs.declared.denial.Denial.{Denial}

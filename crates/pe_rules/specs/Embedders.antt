@@ -1,5 +1,5 @@
 -- The chain of embedders of a document, its top document and its page.
--- HTML Standard, "container document", "top-level traversable", "ancestor navigables".
+-- HTML Standard, "container document", "top-level traversable", "inclusive ancestor navigables".
 -- A page is named by its top frame; a top frame has depth 1.
 use Rattle.std.specs.Prelude.{ℕ, ◌++◌, List, [], ◌∷◌, length, Option, unwrap_or, option_map}
 use Rattle.pe_rules.specs.History.{RepliedHistory}

@@ -1,6 +1,6 @@
 -- History-action activation: what consumes it, the second stamp of a document, and that the two stamps differ.
--- HTML Standard, "history-action activation", "consume history-action user activation", "last history-action activation timestamp".
--- The rule is taken literally: consuming user activation later makes the stamps differ again, and an input at the millisecond of the second stamp does not.
+-- HTML Standard, "history-action activation", "history-action activation-consuming API", "consume history-action user activation", "last history-action activation timestamp".
+-- The rule is taken literally: consuming user activation after an input makes the stamps differ again, unless the second is consumed too; an input at the millisecond of the second stamp makes them one.
 use Rattle.std.specs.Prelude.{ℕ, Bool, true, false, ◌&&◌, unwrap_or}
 use Rattle.pe_base.specs.declared.input.Stamp.{Stamp}
 use Rattle.pe_base.specs.declared.input.Stamp.TheVariants as stamp

@@ -59,11 +59,11 @@ is_message T k = is_made (λ s. makes_message s.item) T k
 abbrev pub numbers_made : (Step → Bool) → RepliedHistory → List ℕ
 numbers_made makes T = all_answers (λ s B. option_to_list (some_if (makes s) (length (s ∷ B)))) T
 
--- the frames that were made, newest first
+-- the frames that were made, newest first; users count or look up, and none reads the order
 unfoldable pub frames_made : RepliedHistory → List ℕ
 frames_made T = answers_newest_first (λ s B. some_if (makes_frame s.event) (length (s ∷ B))) T
 
--- the documents that were made, newest first
+-- the documents that were made, newest first; the 0 stands for a position that does not matter
 unfoldable pub documents_made : RepliedHistory → List ℕ
 documents_made T = answers_newest_first (λ s B. some_if (is_some (document_frame s.event 0)) (length (s ∷ B))) T
 

@@ -1,6 +1,6 @@
 -- The sandbox flag and the origin of a document, the declared origin of its container, secure contexts.
--- HTML Standard, "sandboxed origin browsing context flag", "origin"; Permissions Policy, "declared origin"; Secure Contexts.
--- That about:blank takes its embedder's origin, and that opaque origins have the document's number, is this project's own.
+-- HTML Standard, "sandboxed origin browsing context flag", "determine the origin"; Permissions Policy, "declared origin"; Secure Contexts.
+-- That about:blank takes its embedder's origin, that a `src` of about:blank gives the embedder's origin as declared origin, and that opaque origins have the document's number, are this project's own.
 use Rattle.std.specs.Prelude.{ℕ, Bool, true, false, not, ◌||◌, List, length, codes, bytes_eq, Option, Some, None, unwrap_or, option_map, if◌then◌else◌}
 use Rattle.std.specs.List.{list_any}
 use Rattle.pe_allowlist.specs.AsciiWords.{ascii_words, lowercase}

@@ -1,6 +1,6 @@
 -- The permission state of a feature for a document.
--- Permissions, "permission state"; Permissions Policy comes before what is stored.
--- The default permission state is prompt.
+-- Permissions, "get the current permission state"; HTML Standard, "allowed to use", comes before what is stored.
+-- That the default permission state of every feature is prompt is this project's own.
 use Rattle.std.specs.Prelude.{ℕ, not, ◌||◌, is_some, unwrap_or, option_and_then, if◌then◌else◌}
 use Rattle.pe_base.specs.declared.state.State.{State}
 use Rattle.pe_base.specs.declared.state.State.TheVariants as state

@@ -1,5 +1,5 @@
 -- Prompts: their requests, which are settled, which are pending, and the one that is shown.
--- Permissions, "prompt the user to choose"; the queue of prompts is this project's own.
+-- Permissions, "request permission to use"; the queue of prompts is this project's own.
 -- Requests of one pair in one page join one prompt.
 use Rattle.std.specs.Prelude.{ℕ, Bool, false, not, ◌&&◌, ◌==◌, List, [], ◌∷◌, length, filter, Option, Some, None, is_some, unwrap_or, option_map, option_and_then, option_to_list}
 use Rattle.pe_events.specs.declared.answer.Answer.TheVariants as answer
@@ -26,7 +26,7 @@ requesting_document e B = None
 abbrev pub requesting_document_of : ℕ → Step → RepliedHistory → Option ℕ
 requesting_document_of k s B = option_and_then (λ p. option_and_then (λ d. some_if (p == k) d) (requesting_document s.event B)) (prompt_replied s.item)
 
--- the documents of the requests of a prompt, in order
+-- the requests of a prompt, in order, each named by its document, which stands once for each of its requests
 unfoldable pub requests : RepliedHistory → ℕ → List ℕ
 requests T k = all_answers (λ s B. option_to_list (requesting_document_of k s B)) T
 
@@ -39,11 +39,11 @@ answers e k = false
 unfoldable pub is_settled : RepliedHistory → ℕ → Bool
 is_settled T k = is_some (newest_answer (λ s B. some_if (answers s.event k) k) T)
 
--- the documents that wait for the prompt: of its requests, those whose documents are current
+-- the requests that wait for the prompt: those whose documents are current
 unfoldable pub waiting : RepliedHistory → ℕ → List ℕ
 waiting T k = filter (is_current T) (requests T k)
 
--- the prompt is pending: it is not settled, and some document waits for it
+-- the prompt is pending: it is not settled, and some request waits for it
 unfoldable pub is_pending : RepliedHistory → ℕ → Bool
 is_pending T k = not (is_settled T k) && not (length (waiting T k) == 0)
 

@@ -58,7 +58,7 @@ answer_of_request state.Denied k join = answer.Stated state.Denied
 answer_of_request state.Prompt k None = answer.PromptMade k
 answer_of_request state.Prompt k (Some join) = answer.PromptJoined join
 
--- the state that an outcome tells
+-- the state that an outcome tells; of a dismissal prompt, also where it is an embargo
 abbrev pub state_replied : Outcome → State
 state_replied outcome.Allow = state.Granted
 state_replied outcome.Block = state.Denied
@@ -90,7 +90,7 @@ answer_or_done given = unwrap_or given answer.Done
 abbrev pub with_event : RepliedHistory → ℕ → Event → RepliedHistory
 with_event T now e = record { time = now; event = e; item = Replied answer.Done } ∷ T
 
--- the origin of the document that the event makes
+-- the origin of the document that the event makes (HTML, "determine the origin")
 unfoldable pub new_origin : RepliedHistory → ℕ → Event → Origin
 new_origin T now e = origin_of (with_event T now e) (length T + 1)
 

@@ -1,6 +1,6 @@
 -- Permission keys, the settings of a pair of feature and key, how long they hold, what is stored, and the embargo.
 -- Permissions, "permission store", "permission store entry", "permission key", "lifetime".
--- Lives, the key of `storage-access` and the embargo are this project's own: the third dismissal of a pair in a row denies it for a span.
+-- Lives, the key of `storage-access` and the embargo are this project's own: the third dismissal that counts since the pair's last setting denies it for a span.
 use Rattle.std.specs.Prelude.{ℕ, ◌+◌, Bool, true, false, ◌&&◌, nat_le, nat_lt, List, [], ◌∷◌, Option, Some, None, is_some, unwrap_or, option_map, option_and_then, if◌then◌else◌}
 use Rattle.std.specs.Option.{option_or}
 use Rattle.pe_base.specs.declared.limits.TheConstants.{EMBARGO_DISMISSALS, EMBARGO_SPAN}
@@ -74,14 +74,14 @@ abbrev pub life_for : ℕ → Option ℕ → Life
 life_for time None = life.Forever
 life_for time (Some ms) = life.Until (time + ms)
 
--- the life of an answer: of once, while the top document of the prompt's page is current
+-- the life of an answer: of once, while the top document of the prompt's page is current; of no such document, which no accepted answer has, a life that ended
 abbrev pub life_of_answer : ℕ → EventLife → Option ℕ → Life
 life_of_answer time given.Forever top = life.Forever
 life_of_answer time (given.For ms) top = life.Until (time + ms)
 life_of_answer time given.Once (Some top) = life.Page top
 life_of_answer time given.Once None = life.Until 0
 
--- the state that an outcome stores; a dismissal by itself stores nothing
+-- the state that an outcome names; a dismissal names none, and what the third in a row stores is the embargo's
 abbrev pub stored_by_outcome : Outcome → Option State
 stored_by_outcome outcome.Allow = Some state.Granted
 stored_by_outcome outcome.Block = Some state.Denied
@@ -112,7 +112,7 @@ pub record Standing : Type 0 where
 unfoldable pub stored_by : RepliedHistory → ℕ → Option Setting → Option State
 stored_by T now last = option_and_then (λ x. some_if (holds T now x.life) x.state) last
 
--- nothing or prompt: the user did not decide
+-- nothing or prompt is stored
 abbrev pub is_undecided : Option State → Bool
 is_undecided None = true
 is_undecided (Some state.Prompt) = true
@@ -160,7 +160,7 @@ unfoldable pub standing_of : RepliedHistory → Pair → Standing
 standing_of [] pair = record { last = None; dismissals = 0 }
 standing_of (s ∷ T) pair = let before = standing_of T pair in after_step s T pair before
 
--- the last setting of a pair
+-- the last setting of a pair, by name or as an embargo, also where its life ended
 unfoldable pub last_setting : RepliedHistory → Pair → Option Setting
 last_setting T pair = (standing_of T pair).last
 

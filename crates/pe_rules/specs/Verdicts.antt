@@ -1,5 +1,5 @@
 -- The verdict of a use: the first rule of the call that fails, or how the use is allowed.
--- HTML Standard, "APIs gated by user activation"; Permissions, "permission state"; Secure Contexts, "secure context".
+-- HTML Standard, "APIs gated by user activation"; Permissions, "get the current permission state"; HTML Standard, "allowed to use"; Secure Contexts, "secure context".
 -- The order of the rules is this project's own.
 use Rattle.std.specs.Prelude.{ℕ, Bool, false, not, ◌&&◌, ◌||◌, Option, Some, None, unwrap_or, option_map, option_and_then, if◌then◌else◌}
 use Rattle.std.specs.Option.{option_or}

@@ -87,7 +87,7 @@ fn scripts(rt: HostRuntime) -> Result<(), Fail> {
         (
             "1 open https://a.example/\n0 open none\n\"0\" open https://a.example/\n0 \"open\" https://a.example/\n\
              0 policy f01 camera\n0 policy f camera\n0 policy f0 camera\n0 policy f1 Camera\n0 policy f1 \"camera\"\n",
-            "1 refused syntax\n2 refused syntax\n3 refused syntax\n4 refused syntax\n5 refused syntax\n\
+            "1 refused syntax\n2 refused url\n3 refused syntax\n4 refused syntax\n5 refused syntax\n\
              6 refused syntax\n7 refused syntax\n8 refused unknown\n9 refused syntax\n",
             Status::Refusals,
         ),
@@ -259,7 +259,7 @@ fn headers(rt: HostRuntime) -> Result<(), Fail> {
             "0 open https://b.example/ header\n0 open https://b.example/ header camera=() header\n0 open https://b.example/ \"header\" camera=()\n\
              0 open https://b.example/ Header camera=()\n0 open https://b.example/ camera=() header\n0 open none header camera=()\n\
              0 policy f1 camera header camera=()\n0 embed f1 header camera=()\n",
-            "2 refused syntax\n3 refused syntax\n4 refused syntax\n5 refused syntax\n6 refused syntax\n7 refused syntax\n\
+            "2 refused syntax\n3 refused syntax\n4 refused syntax\n5 refused syntax\n6 refused syntax\n7 refused url\n\
              8 refused syntax\n9 refused syntax\n",
         ),
     ];
