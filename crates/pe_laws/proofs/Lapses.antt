@@ -63,6 +63,11 @@ or-true : (b : Bool) → (b || true) ≡ true
 or-true true = refl
 or-true false = refl
 
+pub same-state : (a : State) → is_same_state a a ≡ true
+same-state state.Granted = refl
+same-state state.Denied = refl
+same-state state.Prompt = refl
+
 module _ (pairs : (p q : Pair) → Decides (is_same_pair p q) (p ≡ q)) where
   made-step : (s : Step) (T : RepliedHistory) (p : Pair) (test : Pair → Bool) (x : Setting) → test p ≡ true
       → (last_setting T p ≡ Some x → list_any (λ x. test x.pair) (settings_made T) ≡ true) → (o : Option Setting)
@@ -107,11 +112,6 @@ module _ (pairs : (p q : Pair) → Decides (is_same_pair p q) (p ≡ q)) where
       by_lapse true h = let due : is_due T moment ≡ true = lapse-is-due T moment p h in cc
 
   -- ---- the walk
-
-  same-state : (a : State) → is_same_state a a ≡ true
-  same-state state.Granted = refl
-  same-state state.Denied = refl
-  same-state state.Prompt = refl
 
   no-change : (T : RepliedHistory) (moment : ℕ) → is_due T moment ≡ false → (x : Status) → change_at T moment x ≡ None
   unfolding change_at

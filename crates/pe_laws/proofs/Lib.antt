@@ -7,8 +7,16 @@ pub mod Attributes
 pub mod Making
 pub mod Embedders
 pub mod Current
+pub mod Stamps
+pub mod SecondStamps
+pub mod Quiet
+pub mod States
+pub mod Spans
+pub mod Entries
 pub mod Continued
 pub mod Settings
+pub mod Standings
+pub mod Lives
 pub mod Lapses
 pub mod Enabled
 pub mod PromptsTold

@@ -14,7 +14,7 @@ abbrev pub of_pair : Pair → Option Setting → Option Setting
 of_pair p o = option_and_then (λ x. some_if (is_same_pair x.pair p) x) o
 
 -- a dismissal names no setting
-apart : (time : ℕ) (e : Event) (B : RepliedHistory) → (setting_named time e B ≡ None) ⊎ (dismissed_pair e B ≡ None)
+pub apart : (time : ℕ) (e : Event) (B : RepliedHistory) → (setting_named time e B ≡ None) ⊎ (dismissed_pair e B ≡ None)
 unfolding setting_named
 apart time (event.Answered prompt outcome.Dismiss given) B = inl refl
 apart time e B = inr refl

@@ -1,3 +1,4 @@
+pub mod ActivationLaws
 pub mod AttributesLaws
 pub mod CausesLaws
 pub mod ChangesLaws
@@ -8,11 +9,14 @@ pub mod DueMoments
 pub mod Effects
 pub mod EffectsLaws
 pub mod EmbeddersLaws
+pub mod EntriesLaws
+pub mod HistoryActivationLaws
 pub mod HistoryLaws
 pub mod MakingLaws
 pub mod NumberingLaws
 pub mod OriginsLaws
 pub mod PendingPrompts
+pub mod PermissionStateLaws
 pub mod PromptsLaws
 pub mod SettingsLaws
 pub mod StepLaws

@@ -1,4 +1,5 @@
 use Rattle.pe_laws.proofs.Effects.{is-frame-stays, frames-made-stay, parent-frame-stays, documents-made-stay, last-document-stays, making-stays, frame-of-stays, chain-stays, top-stays, page-stays, page-of-frame-stays, depth-stays, frames-above-stay, origin-stays, flag-stays, secure-stays, declared-stay, container-stay, links-stay, why-stays, attribute-left, attributes-left, older-current, older-last, older-document-in, older-live, older-page-of-frame, older-depth, live-pages-grow, live-frames-grow, current-stays, document-in-stays, live-stays, live-pages-stay, live-frames-stay}
+use Rattle.pe_laws.proofs.Quiet.{activates-none, consumes-none, stamp-stays, transient-stays, sticky-stays, history-none, second-stays, history-active-stays, dismissed-none, setting-none, standing-stays, last-setting-stays, dismissals-stay}
 use Rattle.pe_laws.proofs.positions.effects_laws.Goals as goal
 
 pub returns : goal.returns
@@ -25,6 +26,19 @@ returns c = record {
   why_denied_stays = why-stays;
   attribute_stays = attribute-left;
   attributes_stay = attributes-left;
+  activates_none = activates-none;
+  consumes_none = consumes-none;
+  stamp_of_stays = stamp-stays;
+  has_transient_stays = transient-stays;
+  has_sticky_stays = sticky-stays;
+  consumes_history_none = history-none;
+  second_stamp_stays = second-stays;
+  history_activation_stays = history-active-stays;
+  dismissed_none = dismissed-none;
+  setting_none = setting-none;
+  standing_stays = standing-stays;
+  last_setting_stays = last-setting-stays;
+  dismissals_stay = dismissals-stay;
   older_current_stays = older-current;
   older_last_document_stays = older-last;
   older_document_in_stays = older-document-in;

@@ -1,0 +1,39 @@
+-- Laws of user activation: the stamp of a document step by step, and what the stamp says.
+use Rattle.std.specs.Prelude.{◌≡◌, ℕ, ◌<◌, false, IsTrue, [], ◌∷◌, length, None, if◌then◌else◌}
+use Rattle.pe_base.specs.declared.input.Stamp.{Stamp}
+use Rattle.pe_base.specs.declared.input.Stamp.TheVariants as stamp
+use Rattle.pe_base.specs.Activation.{is_sticky, is_transient}
+use Rattle.pe_rules.specs.History.{Step, RepliedHistory}
+use Rattle.pe_rules.specs.Making.{making}
+use Rattle.pe_rules.specs.Embedders.{page}
+use Rattle.pe_rules.specs.Current.{is_current}
+use Rattle.pe_rules.specs.Activation.{activates, consumes, has_sticky, has_transient, stamp_of}
+use Rattle.pe_events.specs.declared.event.Event.{Event}
+
+-- what consuming leaves of a stamp: never stays never
+abbrev pub consumed_stamp : Stamp → Stamp
+consumed_stamp stamp.Never = stamp.Never
+consumed_stamp other = stamp.Consumed
+
+-- the stamp of a document after a step, by the one before: the time where the step activates it, else consumed where it consumes
+abbrev pub stamp_after : Step → RepliedHistory → ℕ → Stamp → Stamp
+stamp_after s T d before = if activates s.event T d then stamp.At s.time else if consumes s T (page T d) then consumed_stamp before else before
+
+-- what holds of user activation
+pub record ActivationLaws : Type 0 where
+  -- an event activates documents that are current, and so were made before it
+  pub activates_current : (e : Event) (T : RepliedHistory) (d : ℕ) → IsTrue (activates e T d) → IsTrue (is_current T d)
+  pub activates_within : (e : Event) (T : RepliedHistory) (d : ℕ) → length T < d → activates e T d ≡ false
+  -- no document has a stamp at first
+  pub stamp_start : (d : ℕ) → stamp_of [] d ≡ stamp.Never
+  -- the stamp of any number after a step, by the one before
+  pub stamp_step : (s : Step) (T : RepliedHistory) (d : ℕ) → stamp_of (s ∷ T) d ≡ stamp_after s T d (stamp_of T d)
+  -- a document that the step makes has none, since nothing activates what was not made
+  pub stamp_newest : (s : Step) (T : RepliedHistory) → stamp_of (s ∷ T) (length (s ∷ T)) ≡ stamp.Never
+  -- nor has a number beyond the history, or one that is not of a document
+  pub stamp_beyond : (T : RepliedHistory) (d : ℕ) → length T < d → stamp_of T d ≡ stamp.Never
+  pub stamp_unmade : (T : RepliedHistory) (d : ℕ) → making T d ≡ None → stamp_of T d ≡ stamp.Never
+  -- sticky activation is what the stamp says
+  pub sticky_by_stamp : (T : RepliedHistory) (d : ℕ) → has_sticky T d ≡ is_sticky (stamp_of T d)
+  -- transient activation is what the stamp says
+  pub transient_by_stamp : (duration : ℕ) (T : RepliedHistory) (now d : ℕ) → has_transient duration T now d ≡ is_transient duration now (stamp_of T d)
