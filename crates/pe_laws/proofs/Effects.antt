@@ -63,7 +63,7 @@ no-attribute (event.Attr frame given value) item k f name h = cc
 no-attribute (event.Embed parent src place allow sandbox fullscreen srcdoc header) item k f name h = cc
 no-attribute e item k f name h = refl
 
-no-end : (e : Event) (item : StepAnswer) (frames : List ℕ) → (effects e item).ends_documents ≡ false → ends frames e ≡ false
+pub no-end : (e : Event) (item : StepAnswer) (frames : List ℕ) → (effects e item).ends_documents ≡ false → ends frames e ≡ false
 no-end (event.Navigate frame url header) item frames h = cc
 no-end (event.Close frame) item frames h = cc
 no-end e item frames h = refl

@@ -19,6 +19,7 @@ pub mod Standings
 pub mod Lives
 pub mod Lapses
 pub mod Enabled
+pub mod QuietAnswers
 pub mod PromptsTold
 pub mod PendingPrompts
 pub mod Causes
@@ -26,3 +27,10 @@ pub mod Shown
 pub mod Tree
 pub mod Origins
 pub mod Effects
+pub mod Each
+pub mod Statuses
+pub mod MadeNumbers
+pub mod PromptSteps
+pub mod PendingSteps
+pub mod Messages
+pub mod Delegated

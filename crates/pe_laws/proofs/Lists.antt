@@ -15,6 +15,15 @@ pub or-true : (b : Bool) → (b || true) ≡ true
 or-true true = refl
 or-true false = refl
 
+-- what holds after a is added to b is what held before, without a
+pub left-by : (a b c : Bool) → (not (a || b) && c) ≡ ((not b && c) && not a)
+left-by true true c = refl
+left-by true false true = refl
+left-by true false false = refl
+left-by false true c = refl
+left-by false false true = refl
+left-by false false false = refl
+
 -- a number of a filtered list passes the test, and is one of the list
 pub of-filtered : (test : ℕ → Bool) (xs : List ℕ) (k : ℕ) → is_one_of (filter test xs) k ≡ true → (test k ≡ true) × (is_one_of xs k ≡ true)
 of-filtered test [] k h = cc

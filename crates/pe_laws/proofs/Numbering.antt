@@ -56,7 +56,7 @@ numbers-step : (makes : Step → Bool) (s : Step) (T : RepliedHistory) → numbe
 unfolding answers_newest_first
 numbers-step makes s T = refl
 
-same-back : (a b : ℕ) → (a == b) ≡ (b == a)
+pub same-back : (a b : ℕ) → (a == b) ≡ (b == a)
 same-back a b = by_test (a == b) refl
   where
     by_test : (t : Bool) → (a == b) ≡ t → t ≡ (b == a)

@@ -36,15 +36,15 @@ pub prompt-page-older : (s : Step) (T : RepliedHistory) (k : ℕ) → k ≤ leng
 unfolding prompt_page
 prompt-page-older s T k h = rw (step-older s T k h) refl
 
-prompt-pair-newest : (s : Step) (T : RepliedHistory) → prompt_pair (s ∷ T) (suc (length T)) ≡ option_and_then (λ (q : ℕ × Feature). pair_for T q.0 q.1) (asking s.event T)
+pub prompt-pair-newest : (s : Step) (T : RepliedHistory) → prompt_pair (s ∷ T) (suc (length T)) ≡ option_and_then (λ (q : ℕ × Feature). pair_for T q.0 q.1) (asking s.event T)
 unfolding prompt_pair
 prompt-pair-newest s T = rw (step-newest s T) refl
 
-prompt-page-newest : (s : Step) (T : RepliedHistory) → prompt_page (s ∷ T) (suc (length T)) ≡ option_map (λ (q : ℕ × Feature). page T q.0) (asking s.event T)
+pub prompt-page-newest : (s : Step) (T : RepliedHistory) → prompt_page (s ∷ T) (suc (length T)) ≡ option_map (λ (q : ℕ × Feature). page T q.0) (asking s.event T)
 unfolding prompt_page
 prompt-page-newest s T = rw (step-newest s T) refl
 
-prompt-of-older : (s : Step) (T : RepliedHistory) (top k : ℕ) → k ≤ length T → is_prompt_of (s ∷ T) top k ≡ is_prompt_of T top k
+pub prompt-of-older : (s : Step) (T : RepliedHistory) (top k : ℕ) → k ≤ length T → is_prompt_of (s ∷ T) top k ≡ is_prompt_of T top k
 prompt-of-older s T top k h = ap (λ o. unwrap_or (option_map (λ p. p == top) o) false) (prompt-page-older s T k h)
 
 -- ---- the prompts that were made
@@ -94,7 +94,7 @@ settled-older s T k h = by_answer (answers s.event k) h
     by_answer true e = cc
     by_answer false e = e
 
-requests-step : (s : Step) (T : RepliedHistory) (k : ℕ) → requests (s ∷ T) k ≡ requests T k ++ option_to_list (requesting_document_of k s T)
+pub requests-step : (s : Step) (T : RepliedHistory) (k : ℕ) → requests (s ∷ T) k ≡ requests T k ++ option_to_list (requesting_document_of k s T)
 unfolding requests all_answers
 requests-step s T k = refl
 
@@ -122,7 +122,7 @@ within-more n [] [] h g = tt
 within-more n [] (x ∷ new) h g = (omega (arith, g.0), within-more n [] new tt g.1)
 within-more n (d ∷ ds) new h g = (omega (arith, h.0), within-more n ds new h.1 g)
 
-requests-within : (T : RepliedHistory) (k : ℕ) → AllWithin (length T) (requests T k)
+pub requests-within : (T : RepliedHistory) (k : ℕ) → AllWithin (length T) (requests T k)
 unfolding requests all_answers
 requests-within [] k = tt
 requests-within (s ∷ T) k = within-more (length T) (requests T k) (option_to_list (requesting_document_of k s T)) (requests-within T k) (of_asker (requesting_document_of k s T) (asker-of-below k s T))
@@ -151,7 +151,7 @@ unfolding is_pending waiting
 pending-parts T k = rw (left-of-filtered (is_current T) (requests T k)) refl
 
 -- the request that joins a prompt tells that it is pending
-joined-is-pending : (T : RepliedHistory) (frame : ℕ) (feature : List ℕ) (k : ℕ) → prompt_to_join T frame feature ≡ Some k → is_pending T k ≡ true
+pub joined-is-pending : (T : RepliedHistory) (frame : ℕ) (feature : List ℕ) (k : ℕ) → prompt_to_join T frame feature ≡ Some k → is_pending T k ≡ true
 unfolding prompt_to_join pending_prompt_of pending
 joined-is-pending T frame feature k h = by_document (document_in T frame) h
   where

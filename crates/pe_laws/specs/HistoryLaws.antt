@@ -4,6 +4,7 @@ use Rattle.pe_laws.specs.AttributesLaws.{AttributesLaws}
 use Rattle.pe_laws.specs.CausesLaws.{CausesLaws}
 use Rattle.pe_laws.specs.ChangesLaws.{ChangesLaws}
 use Rattle.pe_laws.specs.CurrentLaws.{CurrentLaws}
+use Rattle.pe_laws.specs.DelegationLaws.{DelegationLaws}
 use Rattle.pe_laws.specs.DenialsLaws.{DenialsLaws}
 use Rattle.pe_laws.specs.EffectsLaws.{EffectsLaws}
 use Rattle.pe_laws.specs.EmbeddersLaws.{EmbeddersLaws}
@@ -15,6 +16,7 @@ use Rattle.pe_laws.specs.OriginsLaws.{OriginsLaws}
 use Rattle.pe_laws.specs.PermissionStateLaws.{PermissionStateLaws}
 use Rattle.pe_laws.specs.PromptsLaws.{PromptsLaws}
 use Rattle.pe_laws.specs.SettingsLaws.{SettingsLaws}
+use Rattle.pe_laws.specs.StatusesLaws.{StatusesLaws}
 use Rattle.pe_laws.specs.StepLaws.{StepLaws}
 use Rattle.pe_laws.specs.TreeLaws.{TreeLaws}
 
@@ -37,4 +39,6 @@ pub record HistoryLaws : Type 0 where
   pub changes : ChangesLaws
   pub prompts : PromptsLaws
   pub causes : CausesLaws
+  pub statuses : StatusesLaws
+  pub delegation : DelegationLaws
   pub effects : EffectsLaws

@@ -19,5 +19,7 @@ pub mod PendingPrompts
 pub mod PermissionStateLaws
 pub mod PromptsLaws
 pub mod SettingsLaws
+pub mod DelegationLaws
+pub mod StatusesLaws
 pub mod StepLaws
 pub mod TreeLaws

@@ -6,6 +6,7 @@ use crate::documents::{
     attributes_laws, current_laws, denials_laws, embedders_laws, making_laws, origins_laws,
     tree_laws,
 };
+use crate::objects::{delegation_laws, statuses_laws};
 use crate::permissions::{
     changes_laws, entries_laws, permission_state_laws, prompts_laws, settings_laws,
 };
@@ -33,5 +34,7 @@ pub fn history_laws()
     changes_laws();
     prompts_laws();
     causes_laws();
+    statuses_laws();
+    delegation_laws();
     effects_laws();
 }

@@ -5,6 +5,7 @@
 mod activation;
 mod all;
 mod documents;
+mod objects;
 mod permissions;
 mod positions;
 
@@ -14,6 +15,7 @@ pub use documents::{
     attributes_laws, current_laws, denials_laws, embedders_laws, making_laws, origins_laws,
     tree_laws,
 };
+pub use objects::{delegation_laws, statuses_laws};
 pub use permissions::{
     changes_laws, entries_laws, permission_state_laws, prompts_laws, settings_laws,
 };

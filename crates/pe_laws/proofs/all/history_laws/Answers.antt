@@ -19,5 +19,7 @@ returns c = record {
   changes = c.changes_laws.ensures;
   prompts = c.prompts_laws.ensures;
   causes = c.causes_laws.ensures;
+  statuses = c.statuses_laws.ensures;
+  delegation = c.delegation_laws.ensures;
   effects = c.effects_laws.ensures;
 }
