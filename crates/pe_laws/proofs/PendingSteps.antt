@@ -50,7 +50,7 @@ untold-unmade i h = by_makes (makes_prompt i) refl
   where
     by_makes : (b : Bool) → makes_prompt i ≡ b → b ≡ false
     by_makes false is = refl
-    by_makes true is = let numbers_made = made-is-told i is in let some : prompt_replied i ≡ Some numbers_made.0 = ap prompt_replied numbers_made.1 in cc
+    by_makes true is = let made = made-is-told i is in let some : prompt_replied i ≡ Some made.0 = ap prompt_replied made.1 in cc
 
 pub told-unmade : (duration : ℕ) (T : RepliedHistory) (now : ℕ) (e : Event) → (effects e (step_answer duration T now e)).requests ≡ false → makes_prompt (step_answer duration T now e) ≡ false
 told-unmade duration T now e h = untold-unmade (step_answer duration T now e) (told-unasked duration T now e h)
@@ -82,21 +82,21 @@ told-joins duration T now e k h unmade = by_way (told-asks duration T now e k h)
 
 -- a prompt that is made has the number of its step
 pub told-number : (duration : ℕ) (T : RepliedHistory) (now : ℕ) (e : Event) → makes_prompt (step_answer duration T now e) ≡ true → prompt_replied (step_answer duration T now e) ≡ Some (suc (length T))
-told-number duration T now e h = by_way (told-asks duration T now e numbers_made.0 some)
+told-number duration T now e h = by_way (told-asks duration T now e made.0 some)
   where
-    numbers_made : (k : ℕ) × (step_answer duration T now e ≡ Replied (answer.PromptMade k))
+    made : (k : ℕ) × (step_answer duration T now e ≡ Replied (answer.PromptMade k))
     made = made-is-told (step_answer duration T now e) h
 
-    some : prompt_replied (step_answer duration T now e) ≡ Some numbers_made.0
-    some = ap prompt_replied numbers_made.1
+    some : prompt_replied (step_answer duration T now e) ≡ Some made.0
+    some = ap prompt_replied made.1
 
-    by_way : AsksFor T e numbers_made.0 → prompt_replied (step_answer duration T now e) ≡ Some (suc (length T))
-    by_way (frame, feature, is, inl new) = let here : numbers_made.0 ≡ suc (length T) = omega (arith, new.1) in some ∙ ap Some here
+    by_way : AsksFor T e made.0 → prompt_replied (step_answer duration T now e) ≡ Some (suc (length T))
+    by_way (frame, feature, is, inl new) = let here : made.0 ≡ suc (length T) = omega (arith, new.1) in some ∙ ap Some here
     by_way (frame, feature, is, inr join) =
         let none = makes-by-request duration T now frame feature (ap (λ x. makes_prompt (step_answer duration T now x)) (sym is) ∙ h) in
         absurd (apart (sym none ∙ join))
       where
-        apart : ◌≡◌ {A = Option ℕ} None (Some numbers_made.0) → ⊥
+        apart : ◌≡◌ {A = Option ℕ} None (Some made.0) → ⊥
         apart e = cc
 
 makes-document : (duration : ℕ) (T : RepliedHistory) (now frame : ℕ) (feature : List ℕ) → makes_prompt (step_answer duration T now (event.Request frame feature)) ≡ true
