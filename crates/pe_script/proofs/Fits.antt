@@ -1,13 +1,11 @@
 -- What a line says fits: its time is in range, its texts are plain, and its numbers are names.
-use Rattle.std.proofs.Common.{◌≡◌, ℕ, ◌+◌, ◌^◌, ◌≤◌, Bool, true, false, not, ◌&&◌, ◌||◌, List, [], ◌∷◌, ◌++◌, Option, Some, None, is_some, is_none, option_map, option_and_then, refl, sym, ◌∙◌, ap, codes, bytes_eq, find, cond, if◌then◌else◌, nat_le, IsTrue, fold, arith, subst}
-use Rattle.std.specs.Prelude.{All, length, ◌==◌}
-use Rattle.std.specs.List.{list_any, list_all}
+use Rattle.std.proofs.Common.{◌≡◌, ℕ, ◌≤◌, Bool, true, false, not, ◌&&◌, ◌||◌, List, [], ◌∷◌, ◌++◌, Option, Some, None, is_some, is_none, option_map, option_and_then, refl, ◌∙◌, ap, codes, bytes_eq, find, cond, if◌then◌else◌, nat_le, IsTrue, fold, arith, subst}
+use Rattle.std.specs.Prelude.{All, ◌==◌}
+use Rattle.std.specs.List.{list_any}
 use Rattle.std.proofs.lemmas.Bool.Decides.{nat_tests}
 use Rattle.std.proofs.lemmas.List.Elements.{All-head, All-tail}
 use Rattle.std.proofs.lemmas.List.Folds.{list_any-append}
-use Rattle.pe_base.specs.declared.limits.TheConstants.{NAME_LIMIT, TIME_LIMIT}
-use Rattle.pe_base.specs.declared.input.InputKind.{InputKind}
-use Rattle.pe_base.specs.declared.state.State.{State}
+use Rattle.pe_base.specs.declared.limits.TheConstants.{TIME_LIMIT}
 use Rattle.pe_lines.specs.declared.word.Word.{Word}
 use Rattle.pe_lines.specs.Words.{is_bad_byte, has_bad_byte}
 use Rattle.pe_events.specs.declared.event.Event.{Event}

@@ -1,19 +1,17 @@
 -- The reading of a line, by its bytes and its words.
-use Rattle.std.proofs.Common.{◌≡◌, ℕ, suc, ◌+◌, ◌<◌, ◌≤◌, Bool, true, false, ◌||◌, ◌==◌, List, [], ◌∷◌, length, drop, get_or, Option, Some, None, option_map, option_and_then, unwrap_or, refl, sym, ◌∙◌, ap, if◌then◌else◌, add-one, arith, Result, Ok, Err, IsTrue, subst}
+use Rattle.std.proofs.Common.{◌≡◌, ℕ, suc, ◌+◌, ◌<◌, ◌≤◌, Bool, true, false, ◌==◌, List, ◌∷◌, length, drop, get_or, Option, Some, None, option_map, unwrap_or, refl, sym, ◌∙◌, ap, add-one, Result, Ok, Err, subst}
 use Rattle.std.specs.Prelude.{All, IfOk, IfNone, IfSome, IsErrOf, IsOkAnd, IsSomeAnd}
 use Rattle.std.proofs.Math.Seq.{drop-cons}
 use Rattle.std.proofs.lemmas.List.{drop_all}
-use Rattle.pe_base.specs.declared.limits.TheConstants.{TIME_LIMIT}
 use Rattle.pe_lines.specs.declared.word.Word.{Word}
 use Rattle.pe_lines.specs.Words.{is_blank, is_blank_line, is_comment, has_bad_byte, words_of}
 use Rattle.pe_events.specs.declared.cause.Cause.TheVariants as cause
 use Rattle.pe_events.specs.declared.event.Event.{Event}
 use Rattle.pe_events.specs.declared.stamped.Stamped.{Stamped}
-use Rattle.pe_events.specs.Fitting.{is_fitting}
 use Rattle.pe_events.specs.Timed.{Timed}
 use Rattle.pe_script.specs.declared.reading.LineFault.{LineFault}
 use Rattle.pe_script.specs.declared.reading.LineFault.TheVariants as fault
-use Rattle.pe_script.specs.Reading.{Reading, Silent, Refusal, Says, timed_of, reading_of_words, reading_of}
+use Rattle.pe_script.specs.Reading.{Reading, Silent, Refusal, Says, timed_of, reading_of}
 use Rattle.pe_script.specs.Answering.{is_silent, timed, told, UnlessMemory, Answers}
 use Rattle.pe_script.proofs.Fits.{IfFound, FitsTimed, timed-fits}
 

@@ -1,11 +1,11 @@
 -- What the words of options give, one after another.
-use Rattle.std.proofs.Common.{◌≡◌, ℕ, ◌+◌, Bool, true, false, not, List, [], ◌∷◌, length, Option, Some, None, is_some, unwrap_or, option_map, option_and_then, refl, sym, ◌∙◌, ap, codes, bytes_eq, if◌then◌else◌, fold, subst, Result, Ok, Err}
+use Rattle.std.proofs.Common.{◌≡◌, ℕ, Bool, true, false, not, List, [], ◌∷◌, Option, Some, None, is_some, unwrap_or, option_map, refl, sym, ◌∙◌, ap, codes, bytes_eq, if◌then◌else◌, fold, Result, Ok, Err}
 use Rattle.std.specs.Prelude.{IfOk}
 use Rattle.std.proofs.lemmas.Slice.Eq.{bytes_eq-Decides}
 use Rattle.pe_lines.specs.declared.word.Word.{Word}
 use Rattle.pe_script.specs.Numerals.{bare}
 use Rattle.pe_script.specs.Names.{is_keyword, keyword_in}
-use Rattle.pe_script.specs.Verbs.{OptionName, Options, no_options, option_names, with_name, with_text, with_word, options}
+use Rattle.pe_script.specs.Verbs.{OptionName, Options, no_options, option_names, with_name, with_word, options}
 use Rattle.pe_script.specs.declared.options.OptionName.{OptionName as Name}
 use Rattle.pe_script.specs.OptionSteps.{option_step, settled, options_from, if_taken, told_name, with_option}
 

@@ -1,5 +1,5 @@
 -- Tables of names in the code and in the definitions.
-use Rattle.std.proofs.Common.{◌≡◌, ℕ, Bool, true, false, List, [], ◌∷◌, Option, Some, None, option_map, refl, bytes_eq, find, Bor, cond}
+use Rattle.std.proofs.Common.{◌≡◌, ℕ, Bool, true, false, List, [], ◌∷◌, Some, option_map, refl, bytes_eq, find, Bor, cond}
 use Rattle.std.specs.Prelude.{map}
 use Rattle.pe_script.specs.Names.{named_in}
 

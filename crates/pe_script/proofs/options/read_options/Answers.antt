@@ -1,5 +1,5 @@
-use Rattle.std.proofs.Common.{sym, refl, true, false, ◌∙◌}
-use Rattle.pe_script.proofs.OptionWords.{options-begin, options-refused, options-more, options-all}
+use Rattle.std.proofs.Common.{refl}
+use Rattle.pe_script.proofs.OptionWords.{options-begin, options-refused, options-all}
 use Rattle.pe_script.proofs.options.read_options.Goals as goal
 
 pub loop-name-init : goal.loop-name-init

@@ -1,4 +1,4 @@
-use Rattle.std.proofs.Common.{◌≡◌, None, refl, sym, ap, ◌∙◌, not, length, arith}
+use Rattle.std.proofs.Common.{◌≡◌, None, refl, sym, ap}
 use Rattle.pe_script.specs.Verbs.{Options}
 use Rattle.pe_script.proofs.OptionWords.{fullscreen-taken, srcdoc-taken, name-unknown, text-missing, text-taken-ok}
 use Rattle.pe_script.proofs.options.Options.read_option.Goals as goal
