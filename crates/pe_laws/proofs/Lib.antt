@@ -13,10 +13,13 @@ pub mod Quiet
 pub mod States
 pub mod Spans
 pub mod Entries
+pub mod StampTimes
 pub mod Continued
 pub mod Settings
 pub mod Standings
 pub mod Lives
+pub mod InForce
+pub mod NewSettings
 pub mod Lapses
 pub mod Enabled
 pub mod QuietAnswers

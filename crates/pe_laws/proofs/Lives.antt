@@ -63,7 +63,7 @@ through g None q x h = cc
 through g (Some a) None x h = cc
 through g (Some a) (Some b) x h = (a, b, ap (λ o. unwrap_or o (g a b)) h)
 
-not-page : (time : ℕ) (span : Option ℕ) (d : ℕ) → life_for time span ≡ life.Page d → ⊥
+pub not-page : (time : ℕ) (span : Option ℕ) (d : ℕ) → life_for time span ≡ life.Page d → ⊥
 not-page time None d h = cc
 not-page time (Some ms) d h = cc
 

@@ -14,6 +14,7 @@ use Rattle.pe_rules.specs.Current.{ends, frames_above, is_current, document_in, 
 use Rattle.pe_rules.specs.Causes.{names_closed, cause_of}
 use Rattle.pe_rules.specs.Replies.{replied, accepts_in, accepts, is_regular}
 use Rattle.pe_laws.specs.CurrentLaws.{left_in}
+use Rattle.pe_laws.specs.CausesLaws.{IsFaultless}
 use Rattle.pe_laws.proofs.Numbers.{is_same, same-numbers}
 use Rattle.pe_laws.proofs.Lists.{both, or-true}
 use Rattle.pe_laws.proofs.Numbering.{frame-other, frame-newest, frame-within}
@@ -50,11 +51,13 @@ no-cause : (o : Option Cause) → is_none o ≡ true → o ≡ None
 no-cause None h = refl
 no-cause (Some c) h = cc
 
-accepted-names : (duration : ℕ) (H : History) (e : Timed) → accepts duration H e ≡ true → NamesLive e.event (replied duration H)
+-- no cause applies to an accepted event
+pub accepted-faultless : (duration : ℕ) (H : History) (e : Timed) → accepts duration H e ≡ true → IsFaultless (replied duration H) e.time e.event
 unfolding accepts accepts_in
-accepted-names duration H e h =
-    let w = faultless (replied duration H) e.time e.event (no-cause (cause_of (replied duration H) e.time e.event) h) in
-    names-live (replied duration H) e.event w.opened
+accepted-faultless duration H e h = faultless (replied duration H) e.time e.event (no-cause (cause_of (replied duration H) e.time e.event) h)
+
+accepted-names : (duration : ℕ) (H : History) (e : Timed) → accepts duration H e ≡ true → NamesLive e.event (replied duration H)
+accepted-names duration H e h = let w = accepted-faultless duration H e h in names-live (replied duration H) e.event w.opened
 
 pub regular-names : (duration : ℕ) (H : History) → is_regular duration H ≡ true → AreNamedLive (replied duration H)
 unfolding replied

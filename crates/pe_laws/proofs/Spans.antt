@@ -16,13 +16,14 @@ use Rattle.pe_rules.specs.Current.{document_in}
 use Rattle.pe_rules.specs.Settings.{Setting, pair_for, last_setting, holds, stored_by, stored_state}
 use Rattle.pe_rules.specs.PermissionState.{permission_state}
 use Rattle.pe_rules.specs.Statuses.{Status, status_by, is_live_status, live_statuses}
-use Rattle.pe_rules.specs.Changes.{is_same_state, change_at, change_between, is_live_in, changes_after}
+use Rattle.pe_rules.specs.Changes.{is_same_state, change_of, change_at, change_between, is_live_in, changes_after}
 use Rattle.pe_laws.specs.DueMoments.{MayLapse, ends_at, lapses}
 use Rattle.pe_laws.specs.Effects.{effects}
 use Rattle.pe_laws.proofs.Lists.{then-same}
 use Rattle.pe_laws.proofs.Current.{document-in-below}
 use Rattle.pe_laws.proofs.Lapses.{changes-at-lapse, same-state}
-use Rattle.pe_laws.proofs.States.{state-by-entry, state-stays}
+use Rattle.pe_laws.specs.PermissionStateLaws.{is_blocked, state_from}
+use Rattle.pe_laws.proofs.States.{blocked-older, state-blocked, state-of-pair, state-older, state-same-entry, state-by-entry, state-stays}
 
 -- ---- what time leaves of what is stored
 
@@ -151,6 +152,28 @@ live-within T = filter-within (length T) (is_live_status T) (all_answers (λ s B
 none-of : (n : ℕ) (give : Status → Option Change) (xs : List Status) → AreWithin n xs → ((x : Status) → x.document ≤ n → give x ≡ None) → flat_map (λ x. option_to_list (give x)) xs ≡ []
 none-of n give [] h none = refl
 none-of n give (x ∷ xs) h none = rw (none x h.0) (none-of n give xs h.1 none)
+
+pub none-unless-stored : (s : Step) (T : RepliedHistory) (now : ℕ) (x : Status) → x.document ≤ length T
+    → ((p : Pair) → pair_for T x.document x.feature ≡ Some p → stored_state (s ∷ T) now p ≡ stored_state T now p) → change_between T (s ∷ T) now x ≡ None
+unfolding change_between
+none-unless-stored s T now x le same =
+    rw (state-same-entry s T now x.document x.feature le same, same-state (permission_state T now x.document x.feature)) refl
+
+pub none-blocked : (s : Step) (T : RepliedHistory) (now : ℕ) (x : Status) → x.document ≤ length T → is_blocked T x.document x.feature ≡ true → change_between T (s ∷ T) now x ≡ None
+unfolding change_between
+none-blocked s T now x le h =
+    rw (
+      state-blocked T now x.document x.feature h,
+      state-blocked (s ∷ T) now x.document x.feature (blocked-older s T x.document x.feature le ∙ h),
+    ) refl
+
+pub between-of-pair : (s : Step) (T : RepliedHistory) (now : ℕ) (x : Status) (p : Pair) → x.document ≤ length T → pair_for T x.document x.feature ≡ Some p
+    → change_between T (s ∷ T) now x ≡ change_of now x (state_from (is_blocked T x.document x.feature) (stored_state T now p)) (state_from (is_blocked T x.document x.feature) (stored_state (s ∷ T) now p))
+unfolding change_between
+between-of-pair s T now x p le is =
+    let after : permission_state (s ∷ T) now x.document x.feature ≡ state_from (is_blocked T x.document x.feature) (stored_state (s ∷ T) now p) =
+    state-older s T now x.document x.feature le ∙ ap (λ o. state_from (is_blocked T x.document x.feature) (option_and_then (stored_state (s ∷ T) now) o)) is in
+    rw (state-of-pair T now x.document x.feature p is, after) refl
 
 module _ (pairs : (p q : Pair) → Decides (is_same_pair p q) (p ≡ q)) where
   pub none-between : (s : Step) (T : RepliedHistory) (now : ℕ) (x : Status) → x.document ≤ length T → (effects s.event s.item).sets ≡ false → (effects s.event s.item).dismisses ≡ false

@@ -1,12 +1,13 @@
 -- Laws of user activation: the stamp of a document step by step, and what the stamp says.
-use Rattle.std.specs.Prelude.{◌≡◌, ℕ, ◌<◌, false, IsTrue, [], ◌∷◌, length, None, if◌then◌else◌}
+use Rattle.std.specs.Prelude.{◌≡◌, ℕ, ◌<◌, ◌≤◌, false, IsTrue, [], ◌∷◌, length, None, if◌then◌else◌}
 use Rattle.pe_base.specs.declared.input.Stamp.{Stamp}
 use Rattle.pe_base.specs.declared.input.Stamp.TheVariants as stamp
 use Rattle.pe_base.specs.Activation.{is_sticky, is_transient}
-use Rattle.pe_rules.specs.History.{Step, RepliedHistory}
+use Rattle.pe_rules.specs.History.{Step, RepliedHistory, History, clock}
 use Rattle.pe_rules.specs.Making.{making}
 use Rattle.pe_rules.specs.Embedders.{page}
 use Rattle.pe_rules.specs.Current.{is_current}
+use Rattle.pe_rules.specs.Replies.{replied, is_regular}
 use Rattle.pe_rules.specs.Activation.{activates, consumes, has_sticky, has_transient, stamp_of}
 use Rattle.pe_events.specs.declared.event.Event.{Event}
 
@@ -37,3 +38,5 @@ pub record ActivationLaws : Type 0 where
   pub sticky_by_stamp : (T : RepliedHistory) (d : ℕ) → has_sticky T d ≡ is_sticky (stamp_of T d)
   -- transient activation is what the stamp says
   pub transient_by_stamp : (duration : ℕ) (T : RepliedHistory) (now d : ℕ) → has_transient duration T now d ≡ is_transient duration now (stamp_of T d)
+  -- in a regular history the time of a stamp is at most the clock
+  pub stamp_time : (duration : ℕ) (H : History) (d time : ℕ) → IsTrue (is_regular duration H) → stamp_of (replied duration H) d ≡ stamp.At time → time ≤ clock (replied duration H)

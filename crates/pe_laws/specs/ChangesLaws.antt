@@ -1,6 +1,6 @@
 -- Laws of the passing of time: it changes nothing but at the moments at which a life ends.
 -- And of the changes of an event itself: one that sets nothing, dismisses nothing and ends no document brings none.
-use Rattle.std.specs.Prelude.{◌≡◌, ◌≢◌, ℕ, ◌<◌, ◌≤◌, ◌-◌, false, IsTrue, [], ◌∷◌, length, Some, None, option_map, flat_map}
+use Rattle.std.specs.Prelude.{◌≡◌, ◌≢◌, ℕ, ◌<◌, ◌≤◌, ◌-◌, true, false, IsTrue, [], ◌∷◌, length, Some, None, option_map, flat_map}
 use Rattle.pe_features.specs.declared.feature.Feature.{Feature}
 use Rattle.pe_store.specs.Pairs.{Pair}
 use Rattle.pe_events.specs.declared.answer.Change.{Change}
@@ -8,8 +8,9 @@ use Rattle.pe_rules.specs.History.{Step, RepliedHistory}
 use Rattle.pe_rules.specs.Settings.{pair_for, last_setting, stored_state}
 use Rattle.pe_rules.specs.PermissionState.{permission_state}
 use Rattle.pe_rules.specs.Statuses.{Status}
-use Rattle.pe_rules.specs.Changes.{change_at, changes_at, changes_before, change_between, changes_after}
+use Rattle.pe_rules.specs.Changes.{change_of, change_at, changes_at, changes_before, change_between, changes_after}
 use Rattle.pe_laws.specs.DueMoments.{MayLapse, lapses, due_moments}
+use Rattle.pe_laws.specs.PermissionStateLaws.{is_blocked, state_from}
 use Rattle.pe_laws.specs.Effects.{effects}
 
 -- what holds of the changes that time brings, and of those of an event itself
@@ -39,3 +40,10 @@ pub record ChangesLaws : Type 0 where
       → (effects s.event s.item).ends_documents ≡ false → change_between T (s ∷ T) now x ≡ None
   pub none_after : (s : Step) (T : RepliedHistory) (now : ℕ) → (effects s.event s.item).sets ≡ false → (effects s.event s.item).dismisses ≡ false
       → (effects s.event s.item).ends_documents ≡ false → changes_after T (s ∷ T) now ≡ []
+  -- an older status changes by an event only where what is stored for its pair does, and never where its feature is blocked
+  pub none_between_unless_stored : (s : Step) (T : RepliedHistory) (now : ℕ) (x : Status) → x.document ≤ length T
+      → ((p : Pair) → pair_for T x.document x.feature ≡ Some p → stored_state (s ∷ T) now p ≡ stored_state T now p) → change_between T (s ∷ T) now x ≡ None
+  pub none_between_blocked : (s : Step) (T : RepliedHistory) (now : ℕ) (x : Status) → x.document ≤ length T → is_blocked T x.document x.feature ≡ true → change_between T (s ∷ T) now x ≡ None
+  -- the change of an older status by what is stored for its pair before and after
+  pub between_of_pair : (s : Step) (T : RepliedHistory) (now : ℕ) (x : Status) (p : Pair) → x.document ≤ length T → pair_for T x.document x.feature ≡ Some p
+      → change_between T (s ∷ T) now x ≡ change_of now x (state_from (is_blocked T x.document x.feature) (stored_state T now p)) (state_from (is_blocked T x.document x.feature) (stored_state (s ∷ T) now p))

@@ -3,6 +3,7 @@ use Rattle.std.specs.Prelude.{◌≡◌, ◌≢◌, ℕ, ◌<◌, ◌≤◌, ◌
 use Rattle.std.specs.Option.{option_or}
 use Rattle.pe_base.specs.declared.limits.TheConstants.{EMBARGO_DISMISSALS}
 use Rattle.pe_base.specs.declared.state.State.{State}
+use Rattle.pe_base.specs.declared.state.State.TheVariants as state
 use Rattle.pe_features.specs.declared.feature.Feature.{Feature}
 use Rattle.pe_store.specs.declared.key.Life.{Life}
 use Rattle.pe_store.specs.declared.key.Life.TheVariants as life
@@ -11,6 +12,7 @@ use Rattle.pe_events.specs.declared.event.Event.{Event}
 use Rattle.pe_events.specs.declared.event.Event.TheVariants as event
 use Rattle.pe_events.specs.declared.event.EventLife.{EventLife}
 use Rattle.pe_events.specs.declared.event.Outcome.TheVariants as outcome
+use Rattle.pe_events.specs.Fitting.{is_fitting}
 use Rattle.pe_rules.specs.History.{Step, RepliedHistory, some_if, clock}
 use Rattle.pe_rules.specs.Current.{ends, frames_above, is_current}
 use Rattle.pe_rules.specs.Settings.{Setting, Standing, key_for, pair_for, prompt_pair, setting_by, holds, stored_by, dismissed_pair, counts, embargo, embargo_for, is_pair, standing_of, last_setting, dismissals, stored_state, has_entry}
@@ -40,6 +42,10 @@ leaves_life T s other = true
 -- the document that a life names, if it names one, was made in these steps
 abbrev pub IsLifeWithin : RepliedHistory → Life → Type 0
 IsLifeWithin T l = (d : ℕ) → l ≡ life.Page d → (1 ≤ d) × (d ≤ length T)
+
+-- the setting of a pair that is in force at a time: the last one, while its life holds
+unfoldable pub in_force : RepliedHistory → ℕ → Pair → Option Setting
+in_force T now p = option_and_then (λ x. some_if (holds T now x.life) x) (last_setting T p)
 
 -- what holds of settings
 pub record SettingsLaws : Type 0 where
@@ -89,3 +95,15 @@ pub record SettingsLaws : Type 0 where
       → stored_state (s ∷ T) now p ≡ stored_state T now p
   -- what is stored after a setting of the pair: its state, where its life holds
   pub stored_set : (s : Step) (T : RepliedHistory) (now : ℕ) (x : Setting) → setting_by s.time s.event T ≡ Some x → stored_state (s ∷ T) now x.pair ≡ some_if (holds (s ∷ T) now x.life) x.state
+  -- what is stored for a pair is the state of the setting in force
+  pub stored_in_force : (T : RepliedHistory) (now : ℕ) (p : Pair) → stored_state T now p ≡ option_map (λ x. x.state) (in_force T now p)
+  -- the setting in force after a step: the one that the step makes, while its life holds, else the one before, where the step leaves its life
+  pub in_force_step : (s : Step) (T : RepliedHistory) (now : ℕ) (p : Pair)
+      → in_force (s ∷ T) now p ≡ unwrap_or (option_map (λ x. some_if (holds (s ∷ T) now x.life) x) (setting_of s T p)) (option_and_then (λ x. some_if (leaves_life T s x.life) x) (in_force T now p))
+  -- the setting in force at a later time: the one in force now, where its life still holds
+  pub in_force_later : (T : RepliedHistory) (now later : ℕ) (p : Pair) → now ≤ later → in_force T later p ≡ option_and_then (λ x. some_if (holds T later x.life) x) (in_force T now p)
+  -- a setting whose life names a document does not store prompt
+  pub page_life_decides : (time : ℕ) (e : Event) (T : RepliedHistory) (x : Setting) (d : ℕ) → setting_by time e T ≡ Some x → x.life ≡ life.Page d → x.state ≢ state.Prompt
+  -- the life of a setting holds when it is made by an event that a line can say, unless it is that of an answer for once without a page
+  pub set_holds : (s : Step) (T : RepliedHistory) (x : Setting) → IsTrue (is_fitting s.event) → setting_by s.time s.event T ≡ Some x → x.life ≢ life.Until 0
+      → IsTrue (holds (s ∷ T) s.time x.life)

@@ -1,6 +1,8 @@
 use Rattle.pe_laws.proofs.Settings.{last-setting-step}
 use Rattle.pe_laws.proofs.Standings.{standing-step, dismissals-step, standing-set, standing-beside, standing-undismissed, dismissals-below, setting-dismissed, embargo-is}
 use Rattle.pe_laws.proofs.Lives.{key-older, pair-older, pair-feature, life-current, life-within, last-within, last-pair, holds-step, holds-older, ended-later, stored-sooner, stored-by-standing, entry-by-standing, stored-older, stored-set}
+use Rattle.pe_laws.proofs.InForce.{stored-in-force, in-force-step, in-force-later}
+use Rattle.pe_laws.proofs.NewSettings.{page-decides, set-holds}
 use Rattle.pe_laws.proofs.permissions.settings_laws.Goals as goal
 
 pub returns : goal.returns
@@ -29,4 +31,9 @@ returns c = let pairs = c.same_pairs_are_one.ensures in record {
   entry_by_standing = entry-by-standing;
   stored_older = stored-older pairs;
   stored_set = stored-set pairs;
+  stored_in_force = stored-in-force;
+  in_force_step = in-force-step pairs;
+  in_force_later = in-force-later;
+  page_life_decides = page-decides;
+  set_holds = set-holds;
 }
