@@ -82,3 +82,16 @@ then-same f g (Some x) same = same x refl
 pub each-same : {A : Type 0} (f g : ℕ → A) (xs : List ℕ) → ((x : ℕ) → f x ≡ g x) → map f xs ≡ map g xs
 each-same f g [] same = refl
 each-same f g (x ∷ xs) same = rw (same x, each-same f g xs same) refl
+
+-- the numbers of a filtered list are those of the list that pass
+pub filtered-are : (test : ℕ → Bool) (xs : List ℕ) (k : ℕ) → is_one_of (filter test xs) k ≡ (is_one_of xs k && test k)
+filtered-are test xs k = by_filtered (is_one_of (filter test xs) k) refl
+  where
+    by_one : (b : Bool) → is_one_of xs k ≡ b → (c : Bool) → test k ≡ c → is_one_of (filter test xs) k ≡ false → false ≡ (b && c)
+    by_one true one true passes none = sym none ∙ into-filtered test xs k passes one
+    by_one true one false passes none = refl
+    by_one false one c passes none = refl
+
+    by_filtered : (b : Bool) → is_one_of (filter test xs) k ≡ b → b ≡ (is_one_of xs k && test k)
+    by_filtered true is = let w = of-filtered test xs k is in rw (w.0, w.1) refl
+    by_filtered false is = by_one (is_one_of xs k) refl (test k) refl is

@@ -14,6 +14,7 @@ use Rattle.pe_rules.specs.Numbering.{numbers_made, makes_message, is_message}
 use Rattle.pe_rules.specs.Embedders.{page_of_frame}
 use Rattle.pe_rules.specs.Current.{document_in}
 use Rattle.pe_rules.specs.Settings.{word_origin}
+use Rattle.pe_rules.specs.Activation.{is_one_of}
 use Rattle.pe_rules.specs.Delegation.{Message, message_by, message, is_delivery_of, is_message_settled, is_waiting_in, waiting_messages}
 use Rattle.pe_rules.specs.Causes.{state_found, prompt_to_join, names_unknown, cause_of}
 use Rattle.pe_rules.specs.Replies.{answer_of_request, answer_or_done, answer_of, step_answer, replied, is_regular}
@@ -21,11 +22,11 @@ use Rattle.pe_laws.specs.Effects.{effects}
 use Rattle.pe_laws.specs.EffectsLaws.{effects_of}
 use Rattle.pe_laws.specs.PromptsLaws.{step_of}
 use Rattle.pe_laws.proofs.Numbers.{same-numbers}
-use Rattle.pe_laws.proofs.Lists.{left-by}
+use Rattle.pe_laws.proofs.Lists.{left-by, filtered-are}
 use Rattle.pe_laws.proofs.Steps.{told-start, told-step, step-older, step-newest, step-position, regular-step}
 use Rattle.pe_laws.proofs.Numbering.{made-none, message-within}
 use Rattle.pe_laws.proofs.Each.{filter-agree, filter-twice}
-use Rattle.pe_laws.proofs.MadeNumbers.{made-unmade, made-new, made-positions, made-stays}
+use Rattle.pe_laws.proofs.MadeNumbers.{made-are, made-unmade, made-new, made-positions, made-stays}
 use Rattle.pe_laws.proofs.Current.{and-true, document-in-frame}
 use Rattle.pe_laws.proofs.QuietAnswers.{told-quiet}
 use Rattle.pe_laws.proofs.Causes.{faultless}
@@ -241,3 +242,11 @@ pub waiting-stay : (duration : ℕ) (H : History) (e : Timed) (top : ℕ) → (e
     → waiting_messages (replied duration (e ∷ H)) top ≡ waiting_messages (replied duration H) top
 waiting-stay duration H e top posts settles =
     rw (told-step duration e H) (waiting-same (step_of duration H e) (replied duration H) top (left-told duration H e posts) settles)
+
+messages-made : (T : RepliedHistory) (m : ℕ) → is_one_of (numbers_made makes T) m ≡ is_message T m
+unfolding is_message
+messages-made T m = made-are makes T m
+
+pub waiting-are : (T : RepliedHistory) (top m : ℕ) → is_one_of (waiting_messages T top) m ≡ (is_message T m && is_waiting_in T top m)
+waiting-are T top m =
+    ap (λ xs. is_one_of xs m) (waiting-is T top) ∙ filtered-are (is_waiting_in T top) (numbers_made makes T) m ∙ ap (λ b. b && is_waiting_in T top m) (messages-made T m)

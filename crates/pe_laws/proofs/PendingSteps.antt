@@ -12,6 +12,7 @@ use Rattle.pe_events.specs.declared.event.Outcome.{Outcome}
 use Rattle.pe_rules.specs.History.{StepAnswer, Replied, Step, RepliedHistory, History, some_if, newest_answer}
 use Rattle.pe_rules.specs.Numbering.{numbers_made, makes_prompt, is_prompt}
 use Rattle.pe_rules.specs.Current.{is_current, document_in}
+use Rattle.pe_rules.specs.Activation.{is_one_of}
 use Rattle.pe_rules.specs.Prompts.{prompt_replied, requesting_document, requesting_document_of, requests, answers, is_settled, waiting, is_pending, is_prompt_of, pending}
 use Rattle.pe_rules.specs.Causes.{state_found, prompt_to_join, names_unknown, cause_of}
 use Rattle.pe_rules.specs.Replies.{answer_of_request, answer_or_done, answer_of, step_answer, replied, is_regular}
@@ -19,11 +20,11 @@ use Rattle.pe_laws.specs.Effects.{effects}
 use Rattle.pe_laws.specs.EffectsLaws.{effects_of}
 use Rattle.pe_laws.specs.PromptsLaws.{step_of}
 use Rattle.pe_laws.proofs.Numbers.{not_same, same-numbers}
-use Rattle.pe_laws.proofs.Lists.{both, left-by}
+use Rattle.pe_laws.proofs.Lists.{both, left-by, filtered-are}
 use Rattle.pe_laws.proofs.Steps.{told-start, told-step, regular-step}
 use Rattle.pe_laws.proofs.Numbering.{made-none, prompt-newest, prompt-within}
 use Rattle.pe_laws.proofs.Each.{append-none, filter-agree, filter-twice}
-use Rattle.pe_laws.proofs.MadeNumbers.{made-unmade, made-new, made-positions, made-stays}
+use Rattle.pe_laws.proofs.MadeNumbers.{made-are, made-unmade, made-new, made-positions, made-stays}
 use Rattle.pe_laws.proofs.Current.{and-true}
 use Rattle.pe_laws.proofs.Causes.{faultless}
 use Rattle.pe_laws.proofs.Statuses.{apart, accepted}
@@ -424,3 +425,13 @@ pending-made duration H e top regular makes_one =
 
     new : is_pending (s ∷ T) (suc (length T)) ≡ true
     new = new-pending s T (suc (length T)) document.0 (new-settled duration H regular) asks (unanswered (suc (length T))) end
+
+-- ---- which prompts are pending in a page
+
+prompts-made : (T : RepliedHistory) (k : ℕ) → is_one_of (numbers_made makes T) k ≡ is_prompt T k
+unfolding is_prompt
+prompts-made T k = made-are makes T k
+
+pub pending-are : (T : RepliedHistory) (top k : ℕ) → is_one_of (pending T top) k ≡ (is_prompt T k && (is_pending T k && is_prompt_of T top k))
+pending-are T top k =
+    ap (λ xs. is_one_of xs k) (pending-is T top) ∙ filtered-are (is_pending_of T top) (numbers_made makes T) k ∙ ap (λ b. b && is_pending_of T top k) (prompts-made T k)

@@ -1,10 +1,12 @@
 -- Which statuses were made, and what a step leaves of the live ones.
-use Rattle.std.proofs.Common.{◌≡◌, ◌≢◌, ℕ, suc, ◌<◌, ◌≤◌, Bool, true, false, not, ◌&&◌, ◌||◌, ◌==◌, List, [], ◌∷◌, ◌++◌, length, map, filter, Option, Some, None, is_none, option_map, option_and_then, option_to_list, refl, sym, ◌∙◌, ap, arith, cond, true≢false}
+use Rattle.std.proofs.Common.{◌≡◌, ◌≢◌, ℕ, suc, ◌<◌, ◌≤◌, Bool, true, false, not, ◌&&◌, ◌||◌, ◌==◌, List, [], ◌∷◌, ◌++◌, length, map, filter, Option, Some, None, is_some, is_none, unwrap_or, option_map, option_and_then, option_to_list, refl, sym, ◌∙◌, ap, arith, cond, true≢false}
 use Rattle.std.specs.Option.{option_or}
 use Rattle.std.proofs.lemmas.List.{map-append}
+use Rattle.std.specs.List.{list_any}
+use Rattle.std.proofs.lemmas.List.Folds.{list_any-append}
 use Rattle.std.proofs.lemmas.List.Elements.{filter-append}
 use Rattle.pe_features.specs.declared.feature.Feature.{Feature}
-use Rattle.pe_features.specs.Features.{feature_named}
+use Rattle.pe_features.specs.Features.{feature_named, key_of}
 use Rattle.pe_events.specs.declared.event.Event.{Event}
 use Rattle.pe_events.specs.declared.event.Event.TheVariants as event
 use Rattle.pe_events.specs.declared.cause.Cause.{Cause}
@@ -12,18 +14,19 @@ use Rattle.pe_events.specs.Timed.{Timed}
 use Rattle.pe_rules.specs.History.{StepAnswer, Step, RepliedHistory, History, some_if, newest_answer, all_answers, step_at}
 use Rattle.pe_rules.specs.Numbering.{makes_status, is_status}
 use Rattle.pe_rules.specs.Embedders.{page}
-use Rattle.pe_rules.specs.Current.{ends, frames_above, is_current, document_in}
+use Rattle.pe_rules.specs.Current.{ends, frames_above, is_current, document_in, is_live}
 use Rattle.pe_rules.specs.Statuses.{Status, status_by, drops, is_live_status, live_statuses}
-use Rattle.pe_rules.specs.Causes.{names_unknown, cause_of, page_statuses}
+use Rattle.pe_rules.specs.Causes.{names_unknown, names_closed, has_bad_feature, cause_of, page_statuses}
 use Rattle.pe_rules.specs.Replies.{replied, accepts, accepts_in, is_regular}
 use Rattle.pe_laws.specs.Effects.{effects}
 use Rattle.pe_laws.specs.EffectsLaws.{effects_of}
+use Rattle.pe_laws.specs.PromptsLaws.{step_of}
 use Rattle.pe_laws.specs.StatusesLaws.{statuses_made, status_at, leaves, Each, AreRising, IsKept}
 use Rattle.pe_laws.proofs.Numbers.{not_same, is_same, same-numbers}
 use Rattle.pe_laws.proofs.Lists.{both}
 use Rattle.pe_laws.proofs.Each.{each-weaker, each-filter, each-append, each-option, filter-agree, filter-all, filter-twice, append-none, each-passes}
-use Rattle.pe_laws.proofs.Steps.{told-length, step-other, step-older, step-newest, regular-step}
-use Rattle.pe_laws.proofs.Numbering.{made-none, status-within}
+use Rattle.pe_laws.proofs.Steps.{told-start, told-step, told-length, step-other, step-older, step-newest, regular-step}
+use Rattle.pe_laws.proofs.Numbering.{same-back, made-none, status-within, made-other, status-newest}
 use Rattle.pe_laws.proofs.Embedders.{page-older}
 use Rattle.pe_laws.proofs.Current.{and-true, current-older, document-in-frame}
 use Rattle.pe_laws.proofs.Causes.{faultless}
@@ -370,3 +373,117 @@ page-query duration H s top regular drop end =
     ∙ ap (map (λ x. x.number)) (filter-append (λ x. page T x.document == top) (live_statuses T) new)
     ∙ map-append (λ (x : Status). x.number) (filter (λ x. page T x.document == top) (live_statuses T)) (filter (λ x. page T x.document == top) new)
     ∙ ap (λ xs. xs ++ map (λ x. x.number) (filter (λ x. page T x.document == top) new)) (sym (page-is T top))
+
+-- ---- statuses by their numbers
+
+any-filtered : {A : Type 0} (p q : A → Bool) (xs : List A) → list_any p (filter q xs) ≡ list_any (λ x. p x && q x) xs
+any-filtered p q [] = refl
+any-filtered p q (x ∷ xs) = by_test (q x) (any-filtered p q xs)
+  where
+    and-false : (b : Bool) → (b && false) ≡ false
+    and-false true = refl
+    and-false false = refl
+
+    by_test : (b : Bool) → list_any p (filter q xs) ≡ list_any (λ x. p x && q x) xs → list_any p (cond b (x ∷ filter q xs) (filter q xs)) ≡ ((p x && b) || list_any (λ x. p x && q x) xs)
+    by_test true rest = rw (and-true (p x), rest) refl
+    by_test false rest = rw (and-false (p x)) rest
+
+-- the status of a number passes the test
+abbrev passes_at : (Status → Bool) → RepliedHistory → ℕ → Bool
+passes_at test T k = unwrap_or (option_map test (status_at T k)) false
+
+new-passes : (test : Status → Bool) (T : RepliedHistory) (k : ℕ) (o : Option Status) → ((x : Status) → o ≡ Some x → x.number ≡ suc (length T))
+    → list_any (λ x. x.number == k && test x) (option_to_list o) ≡ (k == suc (length T) && unwrap_or (option_map test o) false)
+new-passes test T k None number = by_test (k == suc (length T))
+  where
+    by_test : (b : Bool) → false ≡ (b && false)
+    by_test true = refl
+    by_test false = refl
+new-passes test T k (Some x) number =
+    ap (λ n. (n == k && test x) || false) (number x refl) ∙ ap (λ b. (b && test x) || false) (same-back (suc (length T)) k) ∙ by_test (k == suc (length T) && test x)
+  where
+    by_test : (b : Bool) → (b || false) ≡ b
+    by_test true = refl
+    by_test false = refl
+
+nothing-at : (k : ℕ) → status_at [] k ≡ None
+unfolding status_at step_at newest_answer
+nothing-at k = refl
+
+made-passes : (test : Status → Bool) (T : RepliedHistory) (k : ℕ) → list_any (λ x. x.number == k && test x) (statuses_made T) ≡ passes_at test T k
+made-passes test [] k = rw (made-start, nothing-at k) refl
+made-passes test (s ∷ T) k =
+    ap (list_any (λ x. x.number == k && test x)) (made-step s T)
+    ∙ list_any-append (λ x. x.number == k && test x) (statuses_made T) (option_to_list (status_by s.event T (suc (length T))))
+    ∙ rw (made-passes test T k, new-passes test T k (status_by s.event T (suc (length T))) (λ x made. (made-at s.event T (suc (length T)) x made).0)) (by_place (k == suc (length T)) refl)
+  where
+    or-false : (b : Bool) → (b || false) ≡ b
+    or-false true = refl
+    or-false false = refl
+
+    by_place : (b : Bool) → (k == suc (length T)) ≡ b → (passes_at test T k || (b && unwrap_or (option_map test (status_by s.event T (suc (length T)))) false)) ≡ passes_at test (s ∷ T) k
+    by_place true is =
+        let here : k ≡ suc (length T) = same-numbers k (suc (length T)) is in
+        rw (at-beyond T k (omega arith), ap (status_at (s ∷ T)) here ∙ status-at-newest s T) refl
+    by_place false is = rw (status-other s T k (apart k (suc (length T)) is)) (or-false (passes_at test T k))
+
+-- a number is that of a live status where the status of that number is live
+pub live-number : (T : RepliedHistory) (k : ℕ) → list_any (λ x. x.number == k) (live_statuses T) ≡ unwrap_or (option_map (is_live_status T) (status_at T k)) false
+live-number T k =
+    ap (list_any (λ x. x.number == k)) (live-of-made T) ∙ any-filtered (λ x. x.number == k) (is_live_status T) (statuses_made T) ∙ made-passes (is_live_status T) T k
+
+-- ---- in a regular history each query makes its status
+
+live-named : (T : RepliedHistory) (now frame : ℕ) (feature : List ℕ) → cause_of T now (event.Query frame feature) ≡ None → is_some (document_in T frame) ≡ true
+unfolding names_closed is_live
+live-named T now frame feature h = by_live (is_some (document_in T frame)) ((faultless T now (event.Query frame feature) h).opened)
+  where
+    by_live : (b : Bool) → ((not b || false) || false) ≡ false → b ≡ true
+    by_live true e = refl
+    by_live false e = cc
+
+feature-named : (T : RepliedHistory) (now frame : ℕ) (feature : List ℕ) → cause_of T now (event.Query frame feature) ≡ None → is_some (feature_named feature) ≡ true
+unfolding has_bad_feature
+feature-named T now frame feature h = by_feature (feature_named feature) ((faultless T now (event.Query frame feature) h).feature)
+  where
+    by_feature : (o : Option Feature) → is_none (option_and_then key_of o) ≡ false → is_some o ≡ true
+    by_feature None e = cc
+    by_feature (Some f) e = refl
+
+query-makes : (T : RepliedHistory) (now : ℕ) (e : Event) (k : ℕ) → cause_of T now e ≡ None → is_some (status_by e T k) ≡ makes_status e
+query-makes T now (event.Query frame feature) k h = by_both (document_in T frame) (feature_named feature) (live-named T now frame feature h) (feature-named T now frame feature h)
+  where
+    by_both : (o : Option ℕ) (q : Option Feature) → is_some o ≡ true → is_some q ≡ true
+        → is_some (option_and_then (λ d. option_map (λ f. let y : Status = record { number = k; document = d; feature = f } in y) q) o) ≡ true
+    by_both None q live named = cc
+    by_both (Some d) None live named = cc
+    by_both (Some d) (Some f) live named = refl
+query-makes T now e k h = refl
+
+is-status-newest : (s : Step) (T : RepliedHistory) (k : ℕ) → k ≡ suc (length T) → is_status (s ∷ T) k ≡ makes_status s.event
+is-status-newest s T k here = ap (is_status (s ∷ T)) here ∙ status-newest s T
+
+number-other : (s : Step) (T : RepliedHistory) (k : ℕ) → k ≢ suc (length T) → is_status (s ∷ T) k ≡ is_status T k
+unfolding is_status
+number-other s T k ne = made-other (λ s. makes_status s.event) s T k ne
+
+no-status-yet : (k : ℕ) → is_status [] k ≡ false
+unfolding is_status newest_answer
+no-status-yet k = refl
+
+pub status-known : (duration : ℕ) (H : History) (k : ℕ) → is_regular duration H ≡ true → is_some (status_at (replied duration H) k) ≡ is_status (replied duration H) k
+status-known duration [] k regular = rw (told-start duration) (ap is_some (nothing-at k) ∙ sym (no-status-yet k))
+status-known duration (e ∷ H) k regular =
+    let w = regular-step duration e H regular in
+    rw (told-step duration e H)
+    (by_place (step_of duration H e) (replied duration H) (k == suc (length (replied duration H))) refl (status-known duration H k w.0)
+    (query-makes (replied duration H) e.time e.event (suc (length (replied duration H))) (accepted duration H e w.1)))
+  where
+    by_place : (s : Step) (T : RepliedHistory) (b : Bool) → (k == suc (length T)) ≡ b → is_some (status_at T k) ≡ is_status T k → is_some (status_by s.event T (suc (length T))) ≡ makes_status s.event
+        → is_some (status_at (s ∷ T) k) ≡ is_status (s ∷ T) k
+    by_place s T true is older new =
+        let here : k ≡ suc (length T) = same-numbers k (suc (length T)) is in
+        ap (λ n. is_some (status_at (s ∷ T) n)) here ∙ ap is_some (status-at-newest s T) ∙ new ∙ sym (is-status-newest s T k here)
+    by_place s T false is older new =
+        let ne : k ≢ suc (length T) = apart k (suc (length T)) is in
+        ap is_some (status-other s T k ne) ∙ older ∙ sym (number-other s T k ne)

@@ -1,12 +1,13 @@
 -- Laws of delegating messages, and of the capabilities that documents hold by them: what one step makes of them.
-use Rattle.std.specs.Prelude.{◌≡◌, ℕ, ◌+◌, ◌<◌, ◌≤◌, true, false, not, ◌||◌, ◌==◌, nat_lt, IsTrue, ◌∷◌, ◌++◌, length, filter, Option, Some, None, unwrap_or, option_map, option_and_then, option_to_list, if◌then◌else◌}
+use Rattle.std.specs.Prelude.{◌≡◌, ℕ, ◌+◌, ◌<◌, ◌≤◌, true, false, not, ◌&&◌, ◌||◌, ◌==◌, nat_lt, IsTrue, ◌∷◌, ◌++◌, length, filter, Option, Some, None, unwrap_or, option_map, option_and_then, option_to_list, if◌then◌else◌}
 use Rattle.pe_features.specs.declared.capability.Capability.{Capability}
 use Rattle.pe_events.specs.Timed.{Timed}
 use Rattle.pe_events.specs.declared.event.Event.TheVariants as event
 use Rattle.pe_rules.specs.History.{Step, RepliedHistory, History, some_if}
 use Rattle.pe_rules.specs.Numbering.{makes_message, is_message}
 use Rattle.pe_rules.specs.Making.{frame_of}
-use Rattle.pe_rules.specs.Delegation.{Message, message_by, message, is_delivery_of, is_message_settled, waiting_messages, hands_over, spends, last_delivery, is_spent_since, has_delegated}
+use Rattle.pe_rules.specs.Activation.{is_one_of}
+use Rattle.pe_rules.specs.Delegation.{Message, message_by, message, is_delivery_of, is_message_settled, is_waiting_in, waiting_messages, hands_over, spends, last_delivery, is_spent_since, has_delegated}
 use Rattle.pe_rules.specs.Replies.{replied, is_regular}
 use Rattle.pe_laws.specs.EffectsLaws.{effects_of}
 use Rattle.pe_laws.specs.PromptsLaws.{step_of}
@@ -32,7 +33,9 @@ pub record DelegationLaws : Type 0 where
   pub settled_stays : (s : Step) (T : RepliedHistory) (m : ℕ) → (effects_of s).settles_message ≡ false → is_message_settled (s ∷ T) m ≡ is_message_settled T m
   -- in a regular history a settled message was made
   pub settled_made : (duration : ℕ) (H : History) (m : ℕ) → IsTrue (is_regular duration H) → is_message_settled (replied duration H) m ≡ true → is_message (replied duration H) m ≡ true
-  -- the waiting messages of a page: in a regular history a new message comes last in the page of its sender
+  -- the waiting messages of a page are the messages that wait in it
+  pub waiting_are : (T : RepliedHistory) (top m : ℕ) → is_one_of (waiting_messages T top) m ≡ (is_message T m && is_waiting_in T top m)
+  -- in a regular history a new message comes last among the waiting ones of the page of its sender
   pub waiting_made : (duration : ℕ) (H : History) (e : Timed) (top : ℕ) → IsTrue (is_regular duration H) → makes_message (step_of duration H e).item ≡ true
       → waiting_messages (replied duration (e ∷ H)) top ≡ waiting_messages (replied duration H) top
       ++ option_to_list (some_if (unwrap_or (option_map (λ x. x.page == top) (message_by e.event (replied duration H))) false) (length (replied duration (e ∷ H))))

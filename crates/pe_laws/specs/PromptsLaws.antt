@@ -1,5 +1,5 @@
 -- Laws of prompts: what one step makes of requests, of the documents that wait and of the pending prompts of a page; and that of each pair one is pending in a page.
-use Rattle.std.specs.Prelude.{◌≡◌, ◌≢◌, ℕ, ◌≤◌, true, false, not, ◌||◌, ◌==◌, IsTrue, [], ◌∷◌, ◌++◌, length, filter, Some, None, option_map, option_and_then, option_to_list}
+use Rattle.std.specs.Prelude.{◌≡◌, ◌≢◌, ℕ, ◌≤◌, true, false, not, ◌&&◌, ◌||◌, ◌==◌, IsTrue, [], ◌∷◌, ◌++◌, length, filter, Some, None, option_map, option_and_then, option_to_list}
 use Rattle.pe_events.specs.Timed.{Timed}
 use Rattle.pe_events.specs.declared.event.Event.TheVariants as event
 use Rattle.pe_events.specs.declared.event.EventLife.{EventLife}
@@ -65,7 +65,9 @@ pub record PromptsLaws : Type 0 where
       → prompt_replied (step_of duration H e).item ≡ Some (length (replied duration (e ∷ H)))
   pub told_pending : (duration : ℕ) (H : History) (e : Timed) (k : ℕ) → prompt_replied (step_of duration H e).item ≡ Some k → makes_prompt (step_of duration H e).item ≡ false
       → is_pending (replied duration H) k ≡ true
-  -- the pending prompts of a page: in a regular history a new prompt comes last in the page of its request
+  -- the pending prompts of a page are the prompts that are pending and of the page
+  pub pending_are : (T : RepliedHistory) (top k : ℕ) → is_one_of (pending T top) k ≡ (is_prompt T k && (is_pending T k && is_prompt_of T top k))
+  -- in a regular history a new prompt comes last among the pending ones of the page of its request
   pub pending_made : (duration : ℕ) (H : History) (e : Timed) (top : ℕ) → IsTrue (is_regular duration H) → makes_prompt (step_of duration H e).item ≡ true
       → pending (replied duration (e ∷ H)) top
       ≡ pending (replied duration H) top ++ option_to_list (some_if (is_prompt_of (replied duration (e ∷ H)) top (length (replied duration (e ∷ H)))) (length (replied duration (e ∷ H))))

@@ -1,5 +1,6 @@
 -- Laws of permission statuses: which were made, which are live, and what one step leaves of them.
-use Rattle.std.specs.Prelude.{◌≡◌, ℕ, ◌<◌, ◌≤◌, false, not, ◌&&◌, ◌==◌, IsTrue, Bool, List, [], ◌∷◌, ◌++◌, length, map, filter, Option, Some, option_and_then, option_to_list}
+use Rattle.std.specs.Prelude.{◌≡◌, ℕ, ◌<◌, ◌≤◌, false, not, ◌&&◌, ◌==◌, IsTrue, Bool, List, [], ◌∷◌, ◌++◌, length, map, filter, Option, Some, is_some, unwrap_or, option_map, option_and_then, option_to_list}
+use Rattle.std.specs.List.{list_any}
 use Rattle.pe_events.specs.declared.event.Event.TheVariants as event
 use Rattle.pe_rules.specs.History.{Step, RepliedHistory, History, all_answers, step_at}
 use Rattle.pe_rules.specs.Numbering.{is_status}
@@ -52,6 +53,10 @@ pub record StatusesLaws : Type 0 where
   -- a status stays under its number, with its document and its feature
   pub status_older : (s : Step) (T : RepliedHistory) (k : ℕ) → k ≤ length T → status_at (s ∷ T) k ≡ status_at T k
   pub status_newest : (s : Step) (T : RepliedHistory) → status_at (s ∷ T) (length (s ∷ T)) ≡ status_by s.event T (length (s ∷ T))
+  -- in a regular history the numbers of statuses are those under which one is kept
+  pub status_known : (duration : ℕ) (H : History) (k : ℕ) → IsTrue (is_regular duration H) → is_some (status_at (replied duration H) k) ≡ is_status (replied duration H) k
+  -- a number is that of a live status exactly where the status of that number is live
+  pub live_number : (T : RepliedHistory) (k : ℕ) → list_any (λ x. x.number == k) (live_statuses T) ≡ unwrap_or (option_map (is_live_status T) (status_at T k)) false
   -- a status that is live after a step where it was there before: it was live, and the step leaves it
   pub is_live_older : (s : Step) (T : RepliedHistory) (x : Status) → x.document ≤ length T → is_live_status (s ∷ T) x ≡ (is_live_status T x && leaves s T x)
   -- the live statuses after a step: those that it leaves, then its own

@@ -1,4 +1,4 @@
-use Rattle.pe_laws.proofs.Messages.{message-older, message-newest, message-made, message-kept, left-told, message-stays, settled-step, settled-stays, settled-made, waiting-made, waiting-delivered, waiting-stay}
+use Rattle.pe_laws.proofs.Messages.{message-older, message-newest, message-made, message-kept, left-told, message-stays, settled-step, settled-stays, settled-made, waiting-are, waiting-made, waiting-delivered, waiting-stay}
 use Rattle.pe_laws.proofs.Delegated.{has-delegated-is, delegated-step, delegated-newest, delegated-beyond, delegated-stays, has-delegated-stays}
 use Rattle.pe_laws.proofs.objects.delegation_laws.Goals as goal
 
@@ -13,6 +13,7 @@ returns c = record {
   settled_step = settled-step;
   settled_stays = settled-stays;
   settled_made = settled-made;
+  waiting_are = waiting-are;
   waiting_made = waiting-made;
   waiting_delivered = waiting-delivered;
   waiting_stay = waiting-stay;

@@ -1,4 +1,4 @@
-use Rattle.pe_laws.proofs.Statuses.{made-start, made-step, live-of-made, live-start, made-rise, live-rise, made-kept, live-kept, status-older, status-at-newest, is-live-older, live-step, live-query, live-drop, live-ended, is-status-stays, made-stay, status-stays, live-stay, page-query, page-drop, page-ended, page-stay}
+use Rattle.pe_laws.proofs.Statuses.{made-start, made-step, live-of-made, live-start, made-rise, live-rise, made-kept, live-kept, status-older, status-at-newest, status-known, live-number, is-live-older, live-step, live-query, live-drop, live-ended, is-status-stays, made-stay, status-stays, live-stay, page-query, page-drop, page-ended, page-stay}
 use Rattle.pe_laws.proofs.objects.statuses_laws.Goals as goal
 
 pub returns : goal.returns
@@ -13,6 +13,8 @@ returns c = record {
   live_kept = live-kept;
   status_older = status-older;
   status_newest = status-at-newest;
+  status_known = status-known;
+  live_number = live-number;
   is_live_older = is-live-older;
   live_step = live-step;
   live_query = live-query;

@@ -1,6 +1,6 @@
 use Rattle.pe_laws.proofs.PendingPrompts.{prompt-pair-older, prompt-page-older, prompt-pair-newest, prompt-page-newest, settled-stays, gone-prompt, one-per-pair, requests-step}
 use Rattle.pe_laws.proofs.PromptSteps.{no-requests, requests-told, requests-other, requests-stay, requests-made, asker-current, settled-step, settled-left, waiting-step, waiting-left, waiting-stay}
-use Rattle.pe_laws.proofs.PendingSteps.{requests-unmade, settled-made, prompt-stays, prompt-left, told-left, number-told, joins-pending, pending-made, pending-answered, pending-left, pending-unmade, pending-stay}
+use Rattle.pe_laws.proofs.PendingSteps.{requests-unmade, settled-made, prompt-stays, prompt-left, told-left, number-told, joins-pending, pending-are, pending-made, pending-answered, pending-left, pending-unmade, pending-stay}
 use Rattle.pe_laws.proofs.permissions.prompts_laws.Goals as goal
 
 pub returns : goal.returns
@@ -31,6 +31,7 @@ returns c = record {
   told_left = told-left;
   told_number = number-told;
   told_pending = joins-pending;
+  pending_are = pending-are;
   pending_made = pending-made;
   pending_answered = pending-answered;
   pending_left = pending-left;
