@@ -13,10 +13,12 @@ mod ConsumingReachesThePage
 mod CountAfterALifeEnded
 mod DeclaredOriginOfAContainer
 mod DelegatedPayment
+mod DismissalWhileDenied
 mod DismissalWhileGranted
 mod Dismissals
 mod DismissalsAcrossPages
 mod DismissalsOfOnePairKey
+mod DismissalsWhilePromptIsStored
 mod EmbargoAfterThreeDismissals
 mod EmbedderHeader
 mod FeaturesOfAPage
@@ -30,9 +32,12 @@ mod HeaderEnablesNothing
 mod HeaderForAnotherOrigin
 mod HeadersJoinedAndUndeclared
 mod HistoryAction
+mod HistoryAfterAPost
 mod HistoryAfterConsuming
 mod HistoryAfterNavigation
 mod HistoryAtOneMillisecond
+mod HistoryAtTheMillisecondOfTheSecondStamp
+mod HistoryConsumedTwice
 mod HistoryInAFrameBelow
 mod HistoryOfOtherPages
 mod InputActivates
