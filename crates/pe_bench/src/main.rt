@@ -7,22 +7,29 @@
 //! - `find COUNT`: looks so many values of such an arena up, at random places.
 //! - `close PAGES SIZE`: opens and closes so many pages of so many frames, one after another.
 //! - `leaf LIVE COUNT`: embeds and closes one frame so many times, where so many frames are live with it.
+//! - `read LINE COUNT`: reads the line of this name so many times, as the name of a verb (`reading`).
+//! - `write ANSWER COUNT`: writes the line of the answer of this name, or of a `change`, so many times (`writing`).
 #![tactic(auto)]
 
 mod arena;
 mod cutter;
 mod fields;
 mod frames;
+mod reading;
+mod writing;
 
+use reading::{Line, line_named};
 use std::alloc::{AllocError, Global};
 use std::process::ExitCode;
 use std::{env, io};
+use writing::{Output, output_named};
 
 /// What is written where the arguments are of no form.
 const USAGE: &str = "usage: pe_bench fields COUNT | cutter BYTES LENGTH PIECE | change COUNT \
-| find COUNT | close PAGES SIZE | leaf LIVE COUNT";
+| find COUNT | close PAGES SIZE | leaf LIVE COUNT | read LINE COUNT | write ANSWER COUNT";
 
 /// What is to be measured.
+#[derive(Drop)]
 enum Work {
     Fields {
         count: u32,
@@ -45,6 +52,14 @@ enum Work {
     Leaf {
         live: u32,
         count: u32,
+    },
+    Read {
+        line: Line,
+        count: u64,
+    },
+    Write {
+        output: Output,
+        count: u64,
     },
 }
 
@@ -85,17 +100,49 @@ fn frames_work(name: &str, first: &str, second: &str) -> Option<Work> {
     None
 }
 
+/// The work of reading a line of this name so many times.
+fn read_work(line: &str, count: &str) -> Option<Work> {
+    Some(Work::Read {
+        line: line_named(line)?,
+        count: count.parse().ok()?,
+    })
+}
+
+/// The work of writing an output of this name so many times.
+fn write_work(alloc: Global, output: &str, count: &str) -> Result<Option<Work>, AllocError> {
+    let Ok(count) = count.parse() else {
+        return Ok(None);
+    };
+    match output_named(alloc, output)? {
+        Some(output) => Ok(Some(Work::Write { output, count })),
+        None => Ok(None),
+    }
+}
+
+/// The work of cutting lines.
+fn cutter_work(bytes: &str, length: &str, piece: &str) -> Option<Work> {
+    Some(Work::Cutter {
+        bytes: bytes.parse().ok()?,
+        length: length.parse().ok()?,
+        piece: piece.parse().ok()?,
+    })
+}
+
 /// The work that the arguments name.
-fn work_of(words: &[String]) -> Option<Work> {
+fn work_of(alloc: Global, words: &[String]) -> Result<Option<Work>, AllocError> {
     match words {
-        [name, count] => counted_work(name.as_str(), count.as_str()),
-        [name, first, second] => frames_work(name.as_str(), first.as_str(), second.as_str()),
-        [name, bytes, length, piece] if name.as_str() == "cutter" => Some(Work::Cutter {
-            bytes: bytes.as_str().parse().ok()?,
-            length: length.as_str().parse().ok()?,
-            piece: piece.as_str().parse().ok()?,
-        }),
-        _ => None,
+        [name, count] => Ok(counted_work(name.as_str(), count.as_str())),
+        [name, line, count] if name.as_str() == "read" => {
+            Ok(read_work(line.as_str(), count.as_str()))
+        }
+        [name, output, count] if name.as_str() == "write" => {
+            write_work(alloc, output.as_str(), count.as_str())
+        }
+        [name, first, second] => Ok(frames_work(name.as_str(), first.as_str(), second.as_str())),
+        [name, bytes, length, piece] if name.as_str() == "cutter" => {
+            Ok(cutter_work(bytes.as_str(), length.as_str(), piece.as_str()))
+        }
+        _ => Ok(None),
     }
 }
 
@@ -139,12 +186,22 @@ fn done(alloc: Global, work: Work) -> Result<String, AllocError> {
             let changed = frames::leaves_changed(alloc, live, count)?;
             format!(in alloc; "{live} live frames, {changed} embedded and closed")
         }
+        Work::Read { line, count } => {
+            let reading = reading::lines_read(alloc, line, count)?;
+            let events = reading.events;
+            let numbers = reading.numbers;
+            format!(in alloc; "{count} lines, {events} events, numbers of sum {numbers}")
+        }
+        Work::Write { output, count } => {
+            let bytes = writing::bytes_written(alloc, &output, count)?;
+            format!(in alloc; "{count} lines, {bytes} bytes")
+        }
     }
 }
 
 fn main(rt: HostRuntime) -> io::Result<ExitCode> {
     let words = words(&rt)?;
-    let Some(work) = work_of(&words) else {
+    let Some(work) = work_of(rt.alloc(), &words)? else {
         println!(rt; "{USAGE}")?;
         return Ok(ExitCode::from(2));
     };
