@@ -1,0 +1,59 @@
+"""Instructions and time of reading and writing a line: python3 instructions.py PE_BENCH [NAME..].
+
+For each name of a line or an answer it prints the instructions of one line, as the difference of two counts
+under valgrind, and the nanoseconds of one line, as the least user time of five runs. Every name is one of
+`crates/pe_bench/src/reading.rt` or `crates/pe_bench/src/writing.rt`; without names it takes all of them.
+"""
+import os
+import re
+import subprocess
+import sys
+
+HERE = os.path.dirname(os.path.abspath(__file__))
+SOURCES = {"read": "reading.rt", "write": "writing.rt"}
+FEW, MORE = 200, 1200
+
+
+def names(work):
+    """The names that stand in the source of this work, in its order."""
+    path = os.path.join(HERE, "..", "crates", "pe_bench", "src", SOURCES[work])
+    with open(path) as source:
+        return re.findall(r'(?:\(\s*|name == )"([a-z-]+)"', source.read())
+
+
+def instructions(program, work, name, count):
+    """The instructions of a run."""
+    words = ["valgrind", "--tool=callgrind", "--callgrind-out-file=/dev/null", program, work, name, str(count)]
+    said = subprocess.run(words, capture_output=True, text=True, check=True).stderr
+    return int(re.search(r"Collected : (\d+)", said).group(1))
+
+
+def seconds(program, work, name, count):
+    """The user time of a run."""
+    child = subprocess.Popen([program, work, name, str(count)], stdout=subprocess.DEVNULL)
+    _, status, used = os.wait4(child.pid, 0)
+    child.returncode = status
+    if status != 0:
+        sys.exit(f"{work} {name} ended with {status}")
+    return used.ru_utime
+
+
+def measured(program, work, name):
+    """The instructions and the nanoseconds of a line."""
+    few, more = (instructions(program, work, name, count) for count in (FEW, MORE))
+    line = (more - few) / (MORE - FEW)
+    count = min(800_000, int(1_000_000_000 / line))
+    least = min(seconds(program, work, name, count) for _ in range(5))
+    return line, 1e9 * least / count
+
+
+def main():
+    program, wanted = sys.argv[1], sys.argv[2:]
+    for work in SOURCES:
+        for name in names(work):
+            if not wanted or name in wanted:
+                line, nanoseconds = measured(program, work, name)
+                print(f"{work} {name}: {line:,.0f} instructions, {nanoseconds:,.0f} ns", flush=True)
+
+
+main()
