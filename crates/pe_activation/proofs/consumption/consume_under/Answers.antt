@@ -1,4 +1,4 @@
-use Rattle.std.proofs.Common.{◌≡◌, ◌+◌, ◌-◌, ◌∷◌, [], Option, length, length-append, sym, ap, subst, ◌∙◌, arith}
+use Rattle.std.proofs.Common.{◌≡◌, ◌∷◌, [], Option, length, length-append, sym, ap, subst, ◌∙◌, arith}
 use Rattle.std.specs.Prelude.{IfSome, IsTrue, map}
 use Rattle.pe_frames.specs.Forest.{Entry, entry_of, has_handle, is_under, with_document, with_doc}
 use Rattle.pe_frames.specs.Order.{after, handles_under}

@@ -1,6 +1,5 @@
-use Rattle.std.proofs.Common.{◌≡◌, ◌++◌, ◌∷◌, [], ◌-◌, cond, refl, Option, length, length-append, sym, ap, subst, ◌∙◌, arith}
+use Rattle.std.proofs.Common.{◌≡◌, ◌∷◌, [], cond, refl, Option, length, length-append, sym, ap, subst, ◌∙◌, arith}
 use Rattle.std.specs.Prelude.{IfSome, IsTrue, map}
-use Rattle.std.specs.Option.{option_map}
 use Rattle.pe_frames.specs.Forest.{Entry, entry_of, has_handle, is_under, with_document, with_doc}
 use Rattle.pe_frames.specs.Order.{after, handles_under, in_tree_order}
 use Rattle.pe_frames.specs.Walk.{visited, changed_to}

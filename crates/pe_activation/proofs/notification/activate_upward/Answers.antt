@@ -1,11 +1,10 @@
 use Rattle.std.proofs.Common.{◌≡◌, ◌++◌, ◌∷◌, [], append_assoc, Option, refl, length, length-append, sym, ap, subst, ◌∙◌, arith}
 use Rattle.std.specs.Prelude.{IfSome, map}
-use Rattle.std.specs.Option.{option_map, option_and_then}
+use Rattle.std.specs.Option.{option_and_then}
 use Rattle.std.proofs.lemmas.List.{append-nil}
 use Rattle.pe_base.specs.declared.input.Stamp.TheVariants as stamp
 use Rattle.pe_base.specs.declared.limits.TheConstants.{DEPTH_LIMIT}
 use Rattle.pe_frames.specs.Forest.{Entry, entry_of, has_handle, parent_of, path_of, with_doc, with_document}
-use Rattle.pe_frames.specs.Walk.{changed_where}
 use Rattle.pe_activation.specs.Notifying.{activated}
 use Rattle.pe_activation.proofs.Wrote.{wrote}
 use Rattle.pe_activation.proofs.Notified.{activated_in, again, first-written, parent-same, path-long, path-top}

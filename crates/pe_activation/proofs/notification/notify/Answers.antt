@@ -1,6 +1,5 @@
 use Rattle.std.proofs.Common.{◌≡◌, ◌≤◌, ◌+◌, ◌*◌, refl, true, ◌||◌, ◌&&◌, Option, length, is_some, sym, ap, subst, ◌∙◌}
 use Rattle.std.specs.Prelude.{IfSome, IsTrue, filter}
-use Rattle.std.specs.Option.{option_map}
 use Rattle.pe_frames.specs.Forest.{Entry, depth_of, entry_of, has_handle, is_under, path_of}
 use Rattle.pe_activation.specs.Notifying.{activated, is_notified, is_related, notified}
 use Rattle.pe_activation.proofs.Notified.{activated-again, has-top, notified-cost, notified-count, notified-entries, of_each, of_some, on-its-path, still-live}
