@@ -1,0 +1,4 @@
+pub mod Items
+pub mod Requests
+pub mod Pending
+pub mod Kept

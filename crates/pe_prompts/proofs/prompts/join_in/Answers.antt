@@ -1,0 +1,12 @@
+use Rattle.std.proofs.Common.{sym, ◌∙◌, ap, nat_eq}
+use Rattle.std.specs.Map.{set_value}
+use Rattle.std.proofs.lemmas.Map.Steps.{set_value_same}
+use Rattle.pe_prompts.proofs.Items.{on_err}
+use Rattle.pe_prompts.proofs.prompts.join_in.Goals as goal
+
+pub returns-in-Some-clause-err : goal.returns-in-Some-clause-err
+returns-in-Some-clause-err c =
+    on_err c.join.result (λ same.
+    (c.get_mut.follows.holds c.join.new.self).0
+    ∙ ap (set_value (nat_eq c.get.result) c.args.pages.now.entries) same
+    ∙ set_value_same (nat_eq c.get.result) c.args.pages.now.entries c.in-Some.queue.now (sym c.in-Some.ensures.value)) c.join.ensures.err

@@ -1,0 +1,5 @@
+pub mod Lists
+pub mod Requests
+pub mod Pending
+pub mod Queues
+pub mod Kept
