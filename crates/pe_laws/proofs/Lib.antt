@@ -37,3 +37,4 @@ pub mod PromptSteps
 pub mod PendingSteps
 pub mod Messages
 pub mod Delegated
+pub mod AttributesBeyond

@@ -1,0 +1,23 @@
+-- Answers that are refusals.
+use Rattle.std.proofs.Common.{◌≡◌, ℕ, Option, Some, None, Result, Ok, Err, refl, sym, ◌∙◌, ap, subst}
+use Rattle.std.specs.Result.{IsErrAnd}
+use Rattle.pe_events.specs.declared.answer.Answer.{Answer}
+use Rattle.pe_events.specs.declared.cause.Cause.{Cause}
+use Rattle.pe_events.specs.Timed.{Timed}
+use Rattle.pe_rules.specs.History.{History}
+use Rattle.pe_rules.specs.Causes.{cause_of}
+use Rattle.pe_engine.specs.declared.refusal.Refusal.{Refusal}
+use Rattle.pe_engine.specs.declared.refusal.Refusal.TheVariants as refusal
+use Rattle.pe_engine.specs.Replying.{steps_of, IsAnswer}
+use Rattle.pe_engine.specs.StandsFor.{EngineValue, StandsFor}
+
+-- a refusal for a cause
+pub answer-for : (new : EngineValue) (H : History) (e : Timed) (why : Cause) (r : Result Answer Refusal) → IsErrAnd r (λ x. x ≡ refusal.For why)
+    → cause_of (steps_of new H) e.time e.event ≡ Some why → StandsFor new H → IsAnswer new H e r
+answer-for new H e why (Ok said) is first stands = absurd is
+answer-for new H e why (Err x) is first stands = subst (λ y. IsAnswer new H e (Err y)) (sym is) (record { first = first; stands = stands })
+
+-- want of memory
+pub answer-memory : (new : EngineValue) (H : History) (e : Timed) (r : Result Answer Refusal) → IsErrAnd r (λ x. x ≡ refusal.Memory) → IsAnswer new H e r
+answer-memory new H e (Ok said) is = absurd is
+answer-memory new H e (Err x) is = subst (λ y. IsAnswer new H e (Err y)) (sym is) tt

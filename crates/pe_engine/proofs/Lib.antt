@@ -1,0 +1,14 @@
+pub mod Lists
+pub mod Handles
+pub mod Kept
+pub mod Look
+pub mod CausesParts
+pub mod Accepted
+pub mod NewRows
+pub mod Words
+pub mod CommonCauses
+pub mod Answering
+pub mod Starting
+pub mod VerbAnswers
+pub mod InPlace
+pub mod Opened

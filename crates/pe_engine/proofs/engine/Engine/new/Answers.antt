@@ -1,0 +1,5 @@
+use Rattle.pe_engine.proofs.Starting.{starts}
+use Rattle.pe_engine.proofs.engine.Engine.new.Goals as goal
+
+pub returns-clause-stands : goal.returns-clause-stands
+returns-clause-stands c = rw (c.new.ensures.items, c.new-2.ensures, c.of.ensures) (starts c.args.duration)

@@ -1,0 +1,10 @@
+pub mod Origins
+pub mod Objects
+pub mod Rows
+pub mod Making
+pub mod Tree
+pub mod StandsFor
+pub mod Causes
+pub mod Replying
+pub mod Giving
+pub mod Changing

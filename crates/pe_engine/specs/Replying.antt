@@ -1,0 +1,45 @@
+-- What an event is answered, and what the engine stands for then.
+-- This project's own.
+-- A refusal leaves everything as it is; an accepted event goes to the history. Of want of memory nothing is said.
+use Rattle.std.specs.Prelude.{◌≡◌, ℕ, List, ◌∷◌, Option, Some, None, Result, Ok, Err}
+use Rattle.pe_events.specs.declared.answer.Answer.{Answer}
+use Rattle.pe_events.specs.declared.cause.Cause.{Cause}
+use Rattle.pe_events.specs.declared.event.Event.{Event}
+use Rattle.pe_events.specs.Timed.{Timed}
+use Rattle.pe_rules.specs.History.{RepliedHistory, History}
+use Rattle.pe_rules.specs.Causes.{cause_of}
+use Rattle.pe_rules.specs.Replies.{answer_of, replied}
+use Rattle.pe_engine.specs.declared.refusal.Refusal.{Refusal}
+use Rattle.pe_engine.specs.declared.refusal.Refusal.TheVariants as refusal
+use Rattle.pe_engine.specs.StandsFor.{EngineValue, StandsFor}
+
+-- a time and an event
+abbrev pub timed : ℕ → Event → Timed
+timed time e = record { time = time; event = e }
+
+-- the steps that an engine of this duration answered
+abbrev pub steps_of : EngineValue → History → RepliedHistory
+steps_of engine H = replied engine.duration H
+
+-- the event is accepted with this answer, and the engine stands for the history with it
+pub record IsAcceptance (new : EngineValue) (H : History) (e : Timed) (said : Answer) : Type 0 where
+  pub faultless : cause_of (steps_of new H) e.time e.event ≡ None
+  pub says : said ≡ answer_of new.duration (steps_of new H) e.time e.event
+  pub stands : StandsFor new (e ∷ H)
+
+-- this is the first cause that applies, and the engine stands for the history still
+pub record IsRefusal (new : EngineValue) (H : History) (e : Timed) (why : Cause) : Type 0 where
+  pub first : cause_of (steps_of new H) e.time e.event ≡ Some why
+  pub stands : StandsFor new H
+
+-- the answer to an event after a history, and what the engine stands for then
+abbrev pub IsAnswer : EngineValue → History → Timed → Result Answer Refusal → Type 0
+IsAnswer new H e (Ok said) = IsAcceptance new H e said
+IsAnswer new H e (Err (refusal.For why)) = IsRefusal new H e why
+IsAnswer new H e (Err refusal.Memory) = Unit {0}
+
+-- what was looked up before an event is applied, or why it is refused; the engine stands for the history as before
+abbrev pub IsChecked : {A : Type 0} → EngineValue → History → Timed → (A → Type 0) → Result A Refusal → Type 0
+IsChecked engine H e P (Ok found) = (cause_of (steps_of engine H) e.time e.event ≡ None) × P found
+IsChecked engine H e P (Err (refusal.For why)) = cause_of (steps_of engine H) e.time e.event ≡ Some why
+IsChecked engine H e P (Err refusal.Memory) = Unit {0}

@@ -1,0 +1,49 @@
+-- What the row of a document says of it.
+-- This project's own: each field is the value that the definitions give.
+use Rattle.std.specs.Prelude.{◌≡◌, ℕ, false, List, ◌∷◌, Some, None, option_map}
+use Rattle.pe_policy.specs.Links.{ChainDocument, end_of_chain}
+use Rattle.pe_policy.specs.PolicyValue.{PolicyValue, IsPolicyOf}
+use Rattle.pe_rules.specs.History.{RepliedHistory}
+use Rattle.pe_rules.specs.Attributes as rules
+use Rattle.pe_rules.specs.Attributes.{attributes_of}
+use Rattle.pe_rules.specs.Origins.{origin_of, sandbox_flag, place_or_none}
+use Rattle.pe_rules.specs.Current.{document_in}
+use Rattle.pe_rules.specs.Denials.{chain_document, chain_documents}
+use Rattle.pe_rules.specs.Activation.{stamp_of}
+use Rattle.pe_rules.specs.HistoryActivation.{second_stamp_of}
+use Rattle.pe_engine.specs.declared.row.Attributes.{Attributes}
+use Rattle.pe_engine.specs.declared.row.Row.{Row}
+
+-- attributes as they are kept: of `src` what its URL names
+abbrev pub kept_attributes : rules.Attributes → Attributes
+kept_attributes a = record { src = option_map place_or_none a.src; srcdoc = a.srcdoc; allow = a.allow; sandbox = a.sandbox; fullscreen = a.fullscreen }
+
+-- no attributes
+abbrev pub no_kept_attributes : Attributes
+no_kept_attributes = record { src = None; srcdoc = false; allow = None; sandbox = None; fullscreen = false }
+
+-- the policy is that of the document, which stands last on its chain
+pub record HasPolicy (T : RepliedHistory) (d : ℕ) (policy : PolicyValue) : Type 0 where
+  pub top : ChainDocument
+  pub rest : List ChainDocument
+  pub chained : chain_documents T d ≡ top ∷ rest
+  pub last : end_of_chain top rest ≡ chain_document T d
+  pub stands : IsPolicyOf policy top rest
+
+-- what is settled when the document is made
+pub record IsSettled (T : RepliedHistory) (x : Row) : Type 0 where
+  pub origin : x.origin ≡ origin_of T x.doc
+  pub sandboxed : x.sandboxed ≡ sandbox_flag T x.doc
+  pub policy : HasPolicy T x.doc x.policy
+
+-- the row of a document that frame f shows: what is settled, and what events change
+pub record IsRow (T : RepliedHistory) (f : ℕ) (x : Row) : Type 0 where
+  pub settled : IsSettled T x
+  pub stamp : x.stamp ≡ stamp_of T x.doc
+  pub second : x.second ≡ second_stamp_of T x.doc
+  pub attributes : x.attributes ≡ kept_attributes (attributes_of T f)
+
+-- frame f shows the document of this row
+pub record IsShown (T : RepliedHistory) (f : ℕ) (x : Row) : Type 0 where
+  pub document : document_in T f ≡ Some x.doc
+  pub row : IsRow T f x

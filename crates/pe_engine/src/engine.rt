@@ -1,0 +1,109 @@
+//! The engine.
+ghost use Rattle.std.specs.Prelude.{◌≡◌, ◌+◌, ◌-◌, ◌^◌, ◌<◌, ◌≤◌, ◌++◌, ℕ, Some, None, IfOk, IfErr, IfSome, IfNone, IsSome, OnOk, OnErr, length};
+ghost use Rattle.pe_base.specs.declared.limits.TheConstants.{EVENT_LIMIT};
+ghost use Rattle.pe_engine.specs.Objects.{handle_at};
+
+use crate::row::Row;
+use pe_arena::Handle;
+use pe_base::Millis;
+use pe_frames::Frames;
+use std::alloc::{AllocError, Global};
+use std::marker::Model;
+
+/// What an event made.
+#[derive(Clone, Copy, Debug, PartialEq, Eq)]
+pub enum Made {
+    /// Nothing that a later event can name.
+    Nothing,
+    /// A frame, with its first document.
+    Frame(Handle),
+    /// A document in a frame that was there.
+    Doc,
+    /// A permission status.
+    Status,
+    /// A prompt.
+    Prompt,
+    /// A message.
+    Message,
+}
+
+/// The engine: what is kept of the accepted events, so that each further one can be answered.
+#[derive(Drop)]
+pub struct Engine {
+    pub(crate) alloc: Global,
+    pub(crate) duration: u32,
+    pub(crate) clock: Millis,
+    pub(crate) failed: bool,
+    pub(crate) made: Vec<Made>,
+    pub(crate) frames: Frames<Row>,
+}
+
+impl Model for Engine {
+    ghost use Rattle.std.specs.Prelude.{◌≤◌, length};
+    ghost use Rattle.pe_base.specs.declared.limits.TheConstants.{EVENT_LIMIT};
+    ghost use Rattle.pe_engine.specs.StandsFor.{EngineValue};
+
+    ghost Value = { EngineValue };
+
+    ghost view = { λ e. record { duration = e.duration; clock = e.clock; failed = e.failed; made = e.made.items; frames = e.frames } };
+
+    ghost invariant = { λ e. (length e.made.items ≤ EVENT_LIMIT) × (e.frames.made ≤ length e.made.items) };
+}
+
+impl Engine {
+    ghost use Rattle.std.specs.Prelude.{[], ◌∷◌};
+    ghost use Rattle.pe_rules.specs.History.{History};
+    ghost use Rattle.pe_engine.specs.StandsFor.{StandsFor};
+
+    /// An engine with no events, whose transient activation lasts for so many milliseconds.
+    pub fn new(alloc: Global, duration: u32) -> Engine
+        requires low { 1 ≤ duration }
+        requires high { duration ≤ 60000 }
+        ensures duration { result.duration ≡ duration }
+        ensures stands { StandsFor result [] }
+    {
+        Engine {
+            alloc,
+            duration,
+            clock: Millis::of(0),
+            failed: false,
+            made: Vec::new(alloc),
+            frames: Frames::new(alloc),
+        }
+    }
+
+    /// Whether memory wanted in an earlier call. Every later one answers that it wants.
+    pub fn failed(&self) -> bool
+        ensures { result ≡ self.now.failed }
+    {
+        self.failed
+    }
+
+    /// The time of the last accepted event, in milliseconds; 0 before any.
+    pub fn clock(&self) -> Millis
+        ensures { result ≡ self.now.clock }
+    {
+        self.clock
+    }
+
+    /// The handle of the frame of this number, also where it is no longer live.
+    pub(crate) fn handle(&self, frame: u32) -> Option<Handle>
+        ensures { result ≡ handle_at self.now.made frame }
+    {
+        let place = (frame as usize).checked_sub(1)?;
+        match self.made.get(place) {
+            Some(Made::Frame(h)) => Some(*h),
+            _ => None,
+        }
+    }
+
+    /// Notes what the event at this time made, which is accepted.
+    pub(crate) fn note(&mut self, now: Millis, made: Made) -> Result<(), AllocError>
+        requires { length self.old.made < EVENT_LIMIT }
+        ensures ok { OnOk result (self.new ≡ record self.old { clock = now; made = self.old.made ++ made ∷ [] }) }
+    {
+        self.made.push(made)?;
+        self.clock = now;
+        Ok(())
+    }
+}

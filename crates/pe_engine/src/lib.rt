@@ -1,0 +1,10 @@
+//! The engine: what each event is answered after those before it.
+#![tactic(auto)]
+
+mod attribute;
+mod engine;
+mod making;
+mod named;
+mod refusal;
+mod row;
+mod verbs;

@@ -1,0 +1,7 @@
+//! The verbs: a file for each, or for a few that are akin.
+mod attr;
+mod close;
+mod history;
+mod open;
+mod policy;
+mod state;
