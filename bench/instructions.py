@@ -1,8 +1,9 @@
-"""Instructions and time of reading and writing a line: python3 instructions.py PE_BENCH [NAME..].
+"""Instructions and time of reading and writing a line, and of activation: python3 instructions.py PE_BENCH [NAME..].
 
 For each name of a line or an answer it prints the instructions of one line, as the difference of two counts
 under valgrind, and the nanoseconds of one line, as the least user time of five runs. Every name is one of
-`crates/pe_bench/src/reading.rt` or `crates/pe_bench/src/writing.rt`; without names it takes all of them.
+`crates/pe_bench/src/reading.rt` or `crates/pe_bench/src/writing.rt`, or `input` or `consume`, which are measured
+on pages of 16 and 256 frames, flat and deep, with what one more frame costs; without names it takes all of them.
 """
 import os
 import re
@@ -12,6 +13,7 @@ import sys
 HERE = os.path.dirname(os.path.abspath(__file__))
 SOURCES = {"read": "reading.rt", "write": "writing.rt"}
 FEW, MORE = 200, 1200
+SIZES = (16, 256)
 
 
 def names(work):
@@ -21,29 +23,29 @@ def names(work):
         return re.findall(r'(?:\(\s*|name == )"([a-z-]+)"', source.read())
 
 
-def instructions(program, work, name, count):
-    """The instructions of a run."""
-    words = ["valgrind", "--tool=callgrind", "--callgrind-out-file=/dev/null", program, work, name, str(count)]
+def instructions(program, work, count):
+    """The instructions of a run of the work, named by its words."""
+    words = ["valgrind", "--tool=callgrind", "--callgrind-out-file=/dev/null", program, *work, str(count)]
     said = subprocess.run(words, capture_output=True, text=True, check=True).stderr
     return int(re.search(r"Collected : (\d+)", said).group(1))
 
 
-def seconds(program, work, name, count):
+def seconds(program, work, count):
     """The user time of a run."""
-    child = subprocess.Popen([program, work, name, str(count)], stdout=subprocess.DEVNULL)
+    child = subprocess.Popen([program, *work, str(count)], stdout=subprocess.DEVNULL)
     _, status, used = os.wait4(child.pid, 0)
     child.returncode = status
     if status != 0:
-        sys.exit(f"{work} {name} ended with {status}")
+        sys.exit(f"{' '.join(work)} ended with {status}")
     return used.ru_utime
 
 
-def measured(program, work, name):
-    """The instructions and the nanoseconds of a line."""
-    few, more = (instructions(program, work, name, count) for count in (FEW, MORE))
+def measured(program, *work):
+    """The instructions and the nanoseconds of a line or a call."""
+    few, more = (instructions(program, work, count) for count in (FEW, MORE))
     line = (more - few) / (MORE - FEW)
     count = min(800_000, int(1_000_000_000 / line))
-    least = min(seconds(program, work, name, count) for _ in range(5))
+    least = min(seconds(program, work, count) for _ in range(5))
     return line, 1e9 * least / count
 
 
@@ -54,6 +56,17 @@ def main():
             if not wanted or name in wanted:
                 line, nanoseconds = measured(program, work, name)
                 print(f"{work} {name}: {line:,.0f} instructions, {nanoseconds:,.0f} ns", flush=True)
+    for call in ("input", "consume"):
+        for shape in ("flat", "deep"):
+            if wanted and call not in wanted:
+                continue
+            calls = {}
+            for size in SIZES:
+                calls[size], nanoseconds = measured(program, call, shape, str(size))
+                print(f"{call} {shape} {size}: {calls[size]:,.0f} instructions, {nanoseconds:,.0f} ns", flush=True)
+            smaller, larger = SIZES
+            more = (calls[larger] - calls[smaller]) / (larger - smaller)
+            print(f"{call} {shape}: {calls[smaller] / smaller:,.1f} a frame of {smaller}, {more:,.1f} each more", flush=True)
 
 
 main()

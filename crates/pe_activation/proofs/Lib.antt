@@ -1,1 +1,2 @@
+pub mod Notified
 pub mod Wrote

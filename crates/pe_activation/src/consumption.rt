@@ -99,7 +99,7 @@ fn consume_under<D: Activatable, L: Ledger>(
     frames.is_changed_in_tree_order();
     let mut at = root;
     consume_at(frames, at, what, steps);
-    while let Some(next) = frames.preorder_next(root, at) {
+    while let Some(next) = frames.preorder_following(root, at) {
         consume_at(frames, next, what, steps);
         at = next;
     }

@@ -7,10 +7,14 @@
 //! - `find COUNT`: looks so many values of such an arena up, at random places.
 //! - `close PAGES SIZE`: opens and closes so many pages of so many frames, one after another.
 //! - `leaf LIVE COUNT`: embeds and closes one frame so many times, where so many frames are live with it.
+//! - `input SHAPE SIZE COUNT`: gives the top frame of a page of so many frames so many inputs. `flat`, all stand
+//!   below the top frame; `deep`, in chains of the greatest depth.
+//! - `consume SHAPE SIZE COUNT`: consumes the activation of such a page so many times.
 //! - `read LINE COUNT`: reads the line of this name so many times, as the name of a verb (`reading`).
 //! - `write ANSWER COUNT`: writes the line of the answer of this name, or of a `change`, so many times (`writing`).
 #![tactic(auto)]
 
+mod activation;
 mod arena;
 mod cutter;
 mod fields;
@@ -18,6 +22,7 @@ mod frames;
 mod reading;
 mod writing;
 
+use activation::{Call, call_named};
 use reading::{Line, line_named};
 use std::alloc::{AllocError, Global};
 use std::process::ExitCode;
@@ -26,7 +31,8 @@ use writing::{Output, output_named};
 
 /// What is written where the arguments are of no form.
 const USAGE: &str = "usage: pe_bench fields COUNT | cutter BYTES LENGTH PIECE | change COUNT \
-| find COUNT | close PAGES SIZE | leaf LIVE COUNT | read LINE COUNT | write ANSWER COUNT";
+| find COUNT | close PAGES SIZE | leaf LIVE COUNT | input SHAPE SIZE COUNT \
+| consume SHAPE SIZE COUNT | read LINE COUNT | write ANSWER COUNT";
 
 /// What is to be measured.
 #[derive(Drop)]
@@ -51,6 +57,12 @@ enum Work {
     },
     Leaf {
         live: u32,
+        count: u32,
+    },
+    Activate {
+        call: Call,
+        flat: bool,
+        size: u32,
         count: u32,
     },
     Read {
@@ -100,6 +112,19 @@ fn frames_work(name: &str, first: &str, second: &str) -> Option<Work> {
     None
 }
 
+/// The work in a page of frames.
+fn activation_work(call: &str, shape: &str, size: &str, count: &str) -> Option<Work> {
+    if shape != "flat" && shape != "deep" {
+        return None;
+    }
+    Some(Work::Activate {
+        call: call_named(call)?,
+        flat: shape == "flat",
+        size: size.parse().ok()?,
+        count: count.parse().ok()?,
+    })
+}
+
 /// The work of reading a line of this name so many times.
 fn read_work(line: &str, count: &str) -> Option<Work> {
     Some(Work::Read {
@@ -142,6 +167,12 @@ fn work_of(alloc: Global, words: &[String]) -> Result<Option<Work>, AllocError> 
         [name, bytes, length, piece] if name.as_str() == "cutter" => {
             Ok(cutter_work(bytes.as_str(), length.as_str(), piece.as_str()))
         }
+        [name, shape, size, count] => Ok(activation_work(
+            name.as_str(),
+            shape.as_str(),
+            size.as_str(),
+            count.as_str(),
+        )),
         _ => Ok(None),
     }
 }
@@ -185,6 +216,15 @@ fn done(alloc: Global, work: Work) -> Result<String, AllocError> {
         Work::Leaf { live, count } => {
             let changed = frames::leaves_changed(alloc, live, count)?;
             format!(in alloc; "{live} live frames, {changed} embedded and closed")
+        }
+        Work::Activate {
+            call,
+            flat,
+            size,
+            count,
+        } => {
+            let changed = activation::page_activated(alloc, call, flat, size, count);
+            format!(in alloc; "{size} frames, {count} calls, {changed} changed")
         }
         Work::Read { line, count } => {
             let reading = reading::lines_read(alloc, line, count)?;

@@ -9,14 +9,13 @@ use Rattle.pe_frames.specs.Forest.{Entry, same_handle, has_handle, entry_of, is_
 use Rattle.pe_frames.specs.Order.{after, is_child, children, tree_order, handles_under}
 use Rattle.pe_frames.specs.Walk.{visited, is_of_page, changed_where, changed_in, changed_to, changed_under, changed_page}
 use Rattle.pe_frames.proofs.Lemmas.{some_same}
-use Rattle.std.proofs.lemmas.Bool.{cases_Bool, false_from_ne_true}
-use Rattle.pe_frames.proofs.Handles.{has-push, same_handle-Decides}
+use Rattle.std.proofs.lemmas.Bool.{cases_Bool}
+use Rattle.pe_frames.proofs.Handles.{has-push, other-turned, same_handle-Decides}
 use Rattle.pe_frames.proofs.Below.{entry-handle}
 use Rattle.pe_frames.proofs.Tree.{Each, each-map, IsTree}
 use Rattle.pe_frames.proofs.Under.{handles-once}
 use Rattle.pe_frames.proofs.Visited.{visited-next, visited-new, visited-last}
 use Rattle.pe_frames.proofs.Counted.{IsOwn, own-each, under-entry, page-under, first-visited}
-use Rattle.std.proofs.Math.Bool.{or-false, or-true}
 
 map-same : {A B : Type 0} (f g : A → B) (xs : List A) → Each (λ x. f x ≡ g x) xs → map f xs ≡ map g xs
 map-same f g [] p = refl
@@ -73,10 +72,40 @@ module _ {D : Type 0} where
         by_entry None f = rw (entry-changed es root ∙ ap (option_map new) f, f) refl
         by_entry (Some e) f = rw (entry-changed es root ∙ ap (option_map new) f, f) (ap (map (λ (x : Entry D). x.handle)) (order-changed DEPTH_LIMIT es e) ∙ handles-changed (tree_order DEPTH_LIMIT es e))
 
+  -- a handle before the others stands for one behind them
+  pushed : (change : Entry D → D) (next : Handle) (done : List Handle) (x : Entry D) → changed_where (λ y. same_handle next y.handle || has_handle y.handle done) change x ≡ changed_in change (done ++ next ∷ []) x
+  pushed change next done x = ap (λ b. record x { doc = cond b (change x) x.doc }) (turned (same_handle next x.handle) (has_handle x.handle done) ∙ sym (has-push x.handle next done))
+    where
+      turned : (a b : Bool) → (a || b) ≡ (b || a)
+      turned true true = refl
+      turned true false = refl
+      turned false true = refl
+      turned false false = refl
+
   module _ (es : List (Entry D)) (are : AreFrames es) where
     -- where two changes agree on each live frame
     same-changes : (f g : Entry D → Entry D) → ((x : Entry D) → IsOwn es x → f x ≡ g x) → map f es ≡ map g es
     same-changes f g p = map-same f g es (each-map (IsOwn es) (λ x. f x ≡ g x) p es (own-each es are))
+
+    module _ (passes : Entry D → Bool) (change : Entry D → D) (next : Handle) (e : Entry D) (found : entry_of es next ≡ Some e) where
+      pub one-more : (x : Entry D) → IsOwn es x → with_document next (change e) (changed_where passes change x) ≡ changed_where (λ y. same_handle next y.handle || passes y) change x
+      one-more x own = elim (cases_Bool (same_handle x.handle next)) as (λ _. with_document next (change e) (changed_where passes change x) ≡ changed_where (λ y. same_handle next y.handle || passes y) change x) [
+        | inl t ↦
+            let same = (same_handle-Decides x.handle next).0 t in
+            let it : x ≡ e = some_same (sym own ∙ ap (entry_of es) same ∙ found) in
+            ap (λ d. record x { doc = d }) (
+            ap (λ b. cond b (change e) (cond (passes x) (change x) x.doc)) t
+            ∙ ap change (sym it)
+            ∙ sym (ap (λ b. cond (b || passes x) (change x) x.doc) ((same_handle-Decides next x.handle).1 (sym same))))
+        | inr t ↦
+            ap (λ d. record x { doc = d }) (
+            ap (λ b. cond b (change e) (cond (passes x) (change x) x.doc)) t
+            ∙ sym (ap (λ b. cond (b || passes x) (change x) x.doc) (other-turned x.handle next t)))
+      ]
+
+      -- a frame that is changed is one more of those that pass
+      pub written-one : map (with_document next (change e)) (map (changed_where passes change) es) ≡ map (changed_where (λ y. same_handle next y.handle || passes y) change) es
+      written-one = map-twice (with_document next (change e)) (changed_where passes change) es ∙ same-changes (λ x. with_document next (change e) (changed_where passes change x)) (changed_where (λ y. same_handle next y.handle || passes y) change) one-more
 
     module _ (change : Entry D → D) (done : List Handle) (next : Handle) (fresh : has_handle next done ≡ false) (e : Entry D) (found : entry_of es next ≡ Some e) where
       -- a frame that was not changed yet is as it was
@@ -87,19 +116,7 @@ module _ {D : Type 0} where
           ∙ ap (λ b. Some (record e { doc = cond b (change e) e.doc })) (ap (λ k. has_handle k done) (entry-handle es next e found) ∙ fresh)
 
       one-entry : (x : Entry D) → IsOwn es x → with_document next (change e) (changed_in change done x) ≡ changed_in change (done ++ next ∷ []) x
-      one-entry x own = elim (cases_Bool (same_handle x.handle next)) as (λ _. with_document next (change e) (changed_in change done x) ≡ changed_in change (done ++ next ∷ []) x) [
-        | inl t ↦
-            let same = (same_handle-Decides x.handle next).0 t in
-            let it : x ≡ e = some_same (sym own ∙ ap (entry_of es) same ∙ found) in
-            ap (λ d. record x { doc = d }) (
-            ap (λ b. cond b (change e) (cond (has_handle x.handle done) (change x) x.doc)) t
-            ∙ ap change (sym it)
-            ∙ sym (ap (λ b. cond b (change x) x.doc) (has-push x.handle next done ∙ ap (λ b. has_handle x.handle done || b) ((same_handle-Decides next x.handle).1 (sym same)) ∙ or-true (has_handle x.handle done))))
-        | inr t ↦
-            ap (λ d. record x { doc = d }) (
-            ap (λ b. cond b (change e) (cond (has_handle x.handle done) (change x) x.doc)) t
-            ∙ sym (ap (λ b. cond b (change x) x.doc) (has-push x.handle next done ∙ ap (λ b. has_handle x.handle done || b) (false_from_ne_true (same_handle next x.handle) (λ s. true≢false (sym ((same_handle-Decides x.handle next).1 (sym ((same_handle-Decides next x.handle).0 s))) ∙ t))) ∙ or-false (has_handle x.handle done))))
-      ]
+      one-entry x own = one-more (λ y. has_handle y.handle done) change next e found x own ∙ pushed change next done x
 
       -- one more frame is changed
       pub changed-one : map (with_document next (change e)) (map (changed_in change done) es) ≡ map (changed_in change (done ++ next ∷ [])) es

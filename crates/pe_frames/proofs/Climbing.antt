@@ -259,13 +259,13 @@ module _ {D : Type 0} where
         }
 
     module _ (at : Handle) (below : List Handle) (so_far : IsListed es root at below) where
-      -- the last of the listed is within the root
-      pub listed-within : IsWithin es root at
-      listed-within = within-of es root at (handles-live es tree root at (
+      -- the last of the listed is one of them
+      pub listed-here : has_handle at (handles_under es root) ≡ true
+      listed-here =
           ap (has_handle at) so_far.is
           ∙ has-append at so_far.front (at ∷ so_far.back)
           ∙ ap (λ b. has_handle at so_far.front || (b || has_handle at so_far.back)) ((same_handle-Decides at at).1 refl)
-          ∙ or-true (has_handle at so_far.front)))
+          ∙ or-true (has_handle at so_far.front)
 
       behind-listed : after at (handles_under es root) ≡ head_of so_far.back
       behind-listed = ap (after at) so_far.is ∙ after-split so_far.front at so_far.back (subst AreOnce so_far.is (handles-once es tree root))

@@ -78,7 +78,7 @@ module _ {D : Type 0} where
   )
 
   -- no handle stands twice
-  own-once : (es : List (Entry D)) → AreFrames es → AreOnce (handles es)
+  pub own-once : (es : List (Entry D)) → AreFrames es → AreOnce (handles es)
   own-once [] are = tt
   own-once (e ∷ es) are = (false_from_ne_true (has_handle e.handle (handles es)) (λ t. true≢false (sym (known es are.1 e.handle t) ∙ ap is_some are.0.new)), own-once es are.1)
     where
@@ -94,7 +94,7 @@ module _ {D : Type 0} where
           by_test false q = q
 
   -- a live frame is listed
-  live-listed : (es : List (Entry D)) (k : Handle) (x : Entry D) → entry_of es k ≡ Some x → has_handle k (handles es) ≡ true
+  pub live-listed : (es : List (Entry D)) (k : Handle) (x : Entry D) → entry_of es k ≡ Some x → has_handle k (handles es) ≡ true
   live-listed [] k x f = absurd cc
   live-listed (e ∷ es) k x f = elim (cases_Bool (same_handle e.handle k)) as (λ _. (same_handle e.handle k || has_handle k (handles es)) ≡ true) [
     | inl t ↦ ap (λ b. b || has_handle k (handles es)) t
@@ -145,7 +145,7 @@ module _ {D : Type 0} where
         by_test true rest = (false_from_ne_true (has_handle x.handle (handles (filter keep xs))) (λ t. true≢false (sym (passing xs own.1 x.handle t).listed ∙ once.0)), rest)
 
   -- of two lists of live frames, none of them twice, as many pass where the same handles do
-  same-count : (es : List (Entry D)) (p q : Entry D → Bool) (xs ys : List (Entry D)) → Each (IsOwn es) xs → Each (IsOwn es) ys → AreOnce (handles xs) → AreOnce (handles ys)
+  pub same-count : (es : List (Entry D)) (p q : Entry D → Bool) (xs ys : List (Entry D)) → Each (IsOwn es) xs → Each (IsOwn es) ys → AreOnce (handles xs) → AreOnce (handles ys)
       → ((k : Handle) (e : Entry D) → entry_of es k ≡ Some e → p e ≡ true → has_handle k (handles xs) ≡ true → (q e ≡ true) × (has_handle k (handles ys) ≡ true))
       → ((k : Handle) (e : Entry D) → entry_of es k ≡ Some e → q e ≡ true → has_handle k (handles ys) ≡ true → (p e ≡ true) × (has_handle k (handles xs) ≡ true))
       → length (filter p xs) ≡ length (filter q ys)

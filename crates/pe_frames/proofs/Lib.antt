@@ -20,6 +20,7 @@ pub mod Navigated
 pub mod Nodes
 pub mod Opened
 pub mod Pages
+pub mod Related
 pub mod Removed
 pub mod Sizes
 pub mod Standings

@@ -1,14 +1,14 @@
 //! What is so of every tree of frames, for proofs of callers.
-ghost use Rattle.std.specs.Prelude.{◌≡◌, ◌≤◌, ◌↔◌, ◌&&◌, IsTrue, IsSome, IsSomeAnd, IfSome, Some, None, Bool, false, [], ◌∷◌, ◌++◌, map, filter, length};
+ghost use Rattle.std.specs.Prelude.{◌≡◌, ◌+◌, ◌≤◌, ◌↔◌, ◌&&◌, ◌||◌, IsTrue, IsSome, IsSomeAnd, IfSome, Some, None, Bool, false, [], ◌∷◌, ◌++◌, map, filter, length};
 ghost use Rattle.std.specs.Option.{option_map, option_and_then};
-ghost use Rattle.pe_frames.specs.Forest.{Entry, entry_of, has_handle, is_under, parent_of, path_of, top_of, page_count, page_size, with_document, AreFrames, AreGiven};
+ghost use Rattle.pe_frames.specs.Forest.{Entry, entry_of, same_handle, has_handle, is_under, parent_of, path_of, top_of, depth_of, page_count, page_size, with_document, AreFrames, AreGiven};
 ghost use Rattle.pe_frames.specs.Order.{after, in_tree_order, handles_under, docs_under, AreOnce};
 ghost use Rattle.pe_frames.specs.Walk.{visited, is_of_page, changed_where, changed_to, changed_under, changed_page};
 
 use crate::frames::Frames;
 use crate::node::Numbered;
 use pe_arena::Handle;
-use pe_base::{FRAME_LIMIT, PAGE_LIMIT};
+use pe_base::{DEPTH_LIMIT, FRAME_LIMIT, PAGE_LIMIT};
 
 impl<D: Numbered> Frames<D> {
     /// The frames are a tree; the call does nothing. No two live frames have one handle, each that is
@@ -31,12 +31,15 @@ impl<D: Numbered> Frames<D> {
     }
 
     /// The way up by `parent` from a live frame goes along its path to the top frame of its page, by
-    /// live frames of that page; the call does nothing.
+    /// live frames of that page, as many as its depth says, of which it alone is at or below itself; the
+    /// call does nothing.
     pub fn is_climbed_by_parents(&self)
         ensures live { (h : Handle) → (p : Handle) → option_and_then parent_of (entry_of self.now.entries h) ≡ Some p → IsSome (entry_of self.now.entries p) }
         ensures path { (h : Handle) → (p : Handle) → option_and_then parent_of (entry_of self.now.entries h) ≡ Some p → path_of self.now.entries h ≡ path_of self.now.entries p ++ h ∷ [] }
         ensures page { (h : Handle) → (p : Handle) → option_and_then parent_of (entry_of self.now.entries h) ≡ Some p → option_map top_of (entry_of self.now.entries p) ≡ option_map top_of (entry_of self.now.entries h) }
         ensures top { (h : Handle) → IfSome (entry_of self.now.entries h) (λ e. parent_of e ≡ None → top_of e ≡ h) }
+        ensures related { (h : Handle) → (keep : Entry D → Bool) → IfSome (entry_of self.now.entries h) (λ e. IsTrue (keep e) → length (filter (λ x. is_under x.handle e || (is_under h x && keep x)) self.now.entries) + 1 ≡ depth_of e + length (filter (λ x. is_under h x && keep x) self.now.entries)) }
+        ensures depth { (h : Handle) → IfSome (entry_of self.now.entries h) (λ e. depth_of e ≤ DEPTH_LIMIT) }
     {
         let _ = &self.order;
     }
@@ -74,7 +77,7 @@ impl<D: Numbered> Frames<D> {
     /// A walk by `preorder_next` that writes by `doc_mut`, where it comes, what the change makes of each
     /// frame, leaves at its end the change of the root and each frame below it, or of the page where the
     /// root is its top frame, and of no other; the call does nothing. Where the change leaves a document
-    /// as it is, it need not be written.
+    /// as it is, it need not be written. Whatever frames are changed, a write adds one to them.
     pub fn is_changed_in_tree_order(&self)
         ensures first { (change : Entry D → D) → (root : Handle) → IfSome (entry_of self.now.entries root) (λ e. map (with_document root (change e)) self.now.entries ≡ changed_to change self.now.entries root root) }
         ensures unvisited { (change : Entry D → D) → (root : Handle) → (h : Handle) → (next : Handle) → after h (handles_under self.now.entries root) ≡ Some next → entry_of (changed_to change self.now.entries root h) next ≡ entry_of self.now.entries next }
@@ -82,6 +85,7 @@ impl<D: Numbered> Frames<D> {
         ensures skipped { (change : Entry D → D) → (root : Handle) → (h : Handle) → (next : Handle) → after h (handles_under self.now.entries root) ≡ Some next → IfSome (entry_of self.now.entries next) (λ e. change e ≡ e.doc → changed_to change self.now.entries root h ≡ changed_to change self.now.entries root next) }
         ensures last { (change : Entry D → D) → (root : Handle) → (h : Handle) → IsTrue (has_handle h (handles_under self.now.entries root)) → after h (handles_under self.now.entries root) ≡ None → changed_to change self.now.entries root h ≡ changed_under change self.now.entries root }
         ensures page { (change : Entry D → D) → (h : Handle) → IfSome (entry_of self.now.entries h) (λ e. changed_under change self.now.entries (top_of e) ≡ changed_page change self.now.entries (top_of e)) }
+        ensures one { (passes : Entry D → Bool) → (change : Entry D → D) → (k : Handle) → IfSome (entry_of self.now.entries k) (λ e. map (with_document k (change e)) (map (changed_where passes change) self.now.entries) ≡ map (changed_where (λ x. same_handle k x.handle || passes x) change) self.now.entries) }
     {
         let _ = &self.order;
     }

@@ -1,6 +1,6 @@
 //! The walk over the tree.
 ghost use Rattle.std.specs.Prelude.{◌≡◌, ◌↔◌, ◌∷◌, Some, None, IsSome, IsSomeAnd, IsTrue, IfSome, IfOk, unwrap_or, false};
-ghost use Rattle.pe_frames.specs.Forest.{entry_of, is_under, last_of};
+ghost use Rattle.pe_frames.specs.Forest.{entry_of, has_handle, is_under, last_of};
 ghost use Rattle.pe_frames.specs.Order.{after, child_handles, next_child_of, handles_under};
 
 use crate::frames::Frames;
@@ -48,7 +48,7 @@ impl<D: Numbered> Frames<D> {
         if !self.is_within(root, at) {
             return None;
         }
-        self.following(root, at)
+        self.preorder_following(root, at)
     }
 
     // Whether the frame is live and is the root or below it.
@@ -81,10 +81,12 @@ impl<D: Numbered> Frames<D> {
         true
     }
 
-    // What stands behind a frame that is the root or below it.
-    fn following(&self, root: Handle, at: Handle) -> Option<Handle>
-        requires { IsSomeAnd (entry_of self.now.entries at) (λ e. IsTrue (is_under root e)) }
-        ensures { result ≡ after at (handles_under self.now.entries root) }
+    /// What `preorder_next` gives for a frame that is the root or below it, without the way up to the
+    /// root that would show that. A walk down by this call comes back over each frame once, as it leaves
+    /// the last of its children.
+    pub fn preorder_following(&self, root: Handle, at: Handle) -> Option<Handle>
+        requires under { IsTrue (has_handle at (handles_under self.now.entries root)) }
+        ensures value { result ≡ after at (handles_under self.now.entries root) }
     {
         let _ = &self.order;
         let first = self.standing(at)?.links.first;
@@ -119,7 +121,7 @@ impl<D: Numbered> Frames<D> {
     {
         let mut below = Vec::new(*self.order.allocator());
         let mut at = h;
-        while let Some(next) = self.following(h, at) {
+        while let Some(next) = self.preorder_following(h, at) {
             below.reserve(1)?;
             below.push_reserved(next);
             at = next;

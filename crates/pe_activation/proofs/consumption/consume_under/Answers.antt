@@ -1,4 +1,4 @@
-use Rattle.std.proofs.Common.{◌≡◌, ◌+◌, ◌-◌, ◌∷◌, [], Option, length, length-append, sym, ap, subst, ◌∙◌, arith}
+use Rattle.std.proofs.Common.{◌≡◌, ◌∷◌, [], Option, length, length-append, sym, ap, subst, ◌∙◌, arith}
 use Rattle.std.specs.Prelude.{IfSome, IsTrue, map}
 use Rattle.pe_frames.specs.Forest.{Entry, entry_of, has_handle, is_under, with_document, with_doc}
 use Rattle.pe_frames.specs.Order.{after, handles_under}
@@ -16,6 +16,13 @@ loop-next-init g c =
     let cost = c.consume_at.ensures.cost in
     record { listed = c.is_visited_in_tree_order.ensures.root c.args.root c.requires.live; so_far = omega (arith, one, cost); entries = w.0; marks = w.1; made = w.2 }
 
+pub preorder_following-requires : goal.preorder_following-requires
+preorder_following-requires g c =
+    let old = c.args.frames.now in
+    let changes = leaves g.D.Activatable.stamp_of g.D.Activatable.with_stamp g.D.Activatable.with_second c.args.what in
+    let here = c.loop-next.invariant in
+    record { under = ap (has_handle c.loop-next.at) (ap (λ es. handles_under es c.args.root) here.entries ∙ c.is_a_tree.ensures.written (λ (x : Entry _). has_handle x.handle (visited c.loop-next.at (handles_under old.entries c.args.root))) changes c.args.root) ∙ here.listed }
+
 pub loop-next-preserved : goal.loop-next-preserved
 loop-next-preserved g c =
     let old = c.args.frames.now in
@@ -25,7 +32,7 @@ loop-next-preserved g c =
     let here = c.loop-next.invariant in
     let next = c.in-Some.next in
     let same = ap (λ es. handles_under es root) here.entries ∙ c.is_a_tree.ensures.written (λ (x : Entry _). has_handle x.handle (visited c.loop-next.at (handles_under old.entries root))) changes root in
-    let behind = ap (after c.loop-next.at) (sym same) ∙ sym c.preorder_next.ensures.value ∙ c.in-Some.is in
+    let behind = ap (after c.loop-next.at) (sym same) ∙ sym c.preorder_following.ensures.value ∙ c.in-Some.is in
     let listed = c.is_visited_in_tree_order.ensures.listed root c.loop-next.at next behind in
     let live = lives (entry_of old.entries next) (λ e. IsTrue (is_under root e)) ((c.is_a_tree.ensures.under root next).0 listed) in
     let still = ap (λ es. entry_of es next) here.entries ∙ c.is_changed_in_tree_order.ensures.unvisited changes root c.loop-next.at next behind in
@@ -44,7 +51,7 @@ loop-next-smaller g c =
     let root = c.args.root in
     let here = c.loop-next.invariant in
     let same = ap (λ es. handles_under es root) here.entries ∙ c.is_a_tree.ensures.written (λ (x : Entry _). has_handle x.handle (visited c.loop-next.at (handles_under old.entries root))) changes root in
-    let behind = ap (after c.loop-next.at) (sym same) ∙ sym c.preorder_next.ensures.value ∙ c.in-Some.is in
+    let behind = ap (after c.loop-next.at) (sym same) ∙ sym c.preorder_following.ensures.value ∙ c.in-Some.is in
     let more = ap length (c.is_visited_in_tree_order.ensures.next root c.loop-next.at c.in-Some.next behind) ∙ length-append (visited c.loop-next.at (handles_under old.entries root)) (c.in-Some.next ∷ []) in
     let few = c.is_visited_in_tree_order.ensures.within root c.in-Some.next in
     let was = here.so_far in

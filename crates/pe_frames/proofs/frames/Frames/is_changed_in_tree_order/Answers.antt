@@ -2,7 +2,7 @@ use Rattle.pe_frames.specs.Forest.{entry_of}
 use Rattle.pe_frames.proofs.Laws.{laws-forest}
 use Rattle.pe_frames.proofs.Under.{tree-seen}
 use Rattle.pe_frames.proofs.Lemmas.{if_each}
-use Rattle.pe_frames.proofs.Changed.{changed-first, changed-next, same-unvisited, skipped-next, changed-last, changed-pages}
+use Rattle.pe_frames.proofs.Changed.{changed-first, changed-next, same-unvisited, skipped-next, changed-last, changed-pages, written-one}
 use Rattle.pe_frames.proofs.frames.Frames.is_changed_in_tree_order.Goals as goal
 
 pub returns-clause-first : goal.returns-clause-first
@@ -46,3 +46,9 @@ returns-clause-page g c =
     let are = (laws-forest c.self.inside.rows c.self.inside.order.items c.self.inside.pages c.self.invariant.forest c.args.self.now c.self.view_is).frames in
     let tree = (tree-seen c.self.inside.rows c.self.inside.order.items c.self.inside.pages c.self.invariant.forest c.args.self.now c.self.view_is) in
     λ change. λ h. if_each _ (entry_of es h) (λ e f. changed-pages es are tree change h e f)
+
+pub returns-clause-one : goal.returns-clause-one
+returns-clause-one g c =
+    let es = c.args.self.now.entries in
+    let are = (laws-forest c.self.inside.rows c.self.inside.order.items c.self.inside.pages c.self.invariant.forest c.args.self.now c.self.view_is).frames in
+    λ passes. λ change. λ k. if_each _ (entry_of es k) (λ e f. written-one es are passes change k e f)
