@@ -105,6 +105,7 @@ module _ (laws : HistoryLaws) where
   accept e u H x said plain stands same working now none says tree = record {
     faultless = ap (λ d. cause_of (replied d H) x.time x.event) same ∙ none;
     says = says ∙ ap (λ d. answer_of d (replied d H) x.time x.event) (sym same);
+    unset = subst (λ d. IsUnset (replied d H)) (sym same) stands.steps.unset;
     stands = accepted e u H x plain stands none same working now tree;
   }
 

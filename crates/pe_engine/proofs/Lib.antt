@@ -12,3 +12,4 @@ pub mod Starting
 pub mod VerbAnswers
 pub mod InPlace
 pub mod Opened
+pub mod NoChanges

@@ -8,3 +8,4 @@ pub mod Causes
 pub mod Replying
 pub mod Giving
 pub mod Changing
+pub mod Stepping

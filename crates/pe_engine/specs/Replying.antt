@@ -11,7 +11,7 @@ use Rattle.pe_rules.specs.Causes.{cause_of}
 use Rattle.pe_rules.specs.Replies.{answer_of, replied}
 use Rattle.pe_engine.specs.declared.refusal.Refusal.{Refusal}
 use Rattle.pe_engine.specs.declared.refusal.Refusal.TheVariants as refusal
-use Rattle.pe_engine.specs.StandsFor.{EngineValue, StandsFor}
+use Rattle.pe_engine.specs.StandsFor.{EngineValue, IsUnset, StandsFor}
 
 -- a time and an event
 abbrev pub timed : ℕ → Event → Timed
@@ -25,6 +25,7 @@ steps_of engine H = replied engine.duration H
 pub record IsAcceptance (new : EngineValue) (H : History) (e : Timed) (said : Answer) : Type 0 where
   pub faultless : cause_of (steps_of new H) e.time e.event ≡ None
   pub says : said ≡ answer_of new.duration (steps_of new H) e.time e.event
+  pub unset : IsUnset (steps_of new H)
   pub stands : StandsFor new (e ∷ H)
 
 -- this is the first cause that applies, and the engine stands for the history still

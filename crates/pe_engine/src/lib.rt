@@ -6,5 +6,10 @@ mod engine;
 mod making;
 mod named;
 mod refusal;
+mod replies;
 mod row;
+mod step;
 mod verbs;
+
+pub use engine::Engine;
+pub use replies::Replies;

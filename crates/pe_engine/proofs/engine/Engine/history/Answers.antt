@@ -1,7 +1,7 @@
-use Rattle.std.proofs.Common.{◌≡◌, [], ◌∷◌, ◌++◌, false, true, Some, refl, sym, ◌∙◌, ap, subst}
+use Rattle.std.proofs.Common.{◌≡◌, [], ◌∷◌, ◌++◌, false, true, refl, sym, ◌∙◌, ap, subst}
 use Rattle.std.specs.Prelude.{IfSome}
 use Rattle.pe_base.specs.Activation.{is_history_active}
-use Rattle.pe_frames.specs.Forest.{Forest, Entry, entry_of, top_of}
+use Rattle.pe_frames.specs.Forest.{Forest, entry_of, top_of}
 use Rattle.pe_frames.specs.Walk.{changed_page}
 use Rattle.pe_activation.specs.Stamps.{history_consumed}
 use Rattle.pe_events.specs.declared.answer.Answer.TheVariants as answer

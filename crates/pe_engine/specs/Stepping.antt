@@ -1,0 +1,58 @@
+-- What a step of the engine replies.
+-- This project's own.
+-- A line here for each verb that is built; an event of another verb is refused as no line of the grammar.
+use Rattle.std.specs.Prelude.{◌≡◌, Bool, true, false, List, [], ◌∷◌, Option, Some, None}
+use Rattle.pe_events.specs.declared.answer.Answer.TheVariants as answer
+use Rattle.pe_events.specs.declared.cause.Cause.{Cause}
+use Rattle.pe_events.specs.declared.cause.Cause.TheVariants as cause
+use Rattle.pe_events.specs.declared.event.Event.{Event}
+use Rattle.pe_events.specs.declared.event.Event.TheVariants as event
+use Rattle.pe_events.specs.Timed.{Timed}
+use Rattle.pe_rules.specs.History.{History}
+use Rattle.pe_rules.specs.Causes.{cause_of}
+use Rattle.pe_rules.specs.Changes.{changes_before, changes_after}
+use Rattle.pe_rules.specs.Replies.{answer_of}
+use Rattle.pe_engine.specs.declared.replies.Replies.{Replies}
+use Rattle.pe_engine.specs.Replying.{steps_of}
+use Rattle.pe_engine.specs.StandsFor.{EngineValue, StandsFor}
+
+-- the verb is built
+abbrev pub is_answered : Event → Bool
+is_answered (event.OpenPage url header) = true
+is_answered (event.Attr frame name value) = true
+is_answered (event.Close frame) = true
+is_answered (event.Ask frame) = true
+is_answered (event.History frame) = true
+is_answered (event.PolicyOf frame feature) = true
+is_answered (event.Features frame) = true
+is_answered event.Tick = true
+is_answered other = false
+
+-- the event is accepted: the answer and both lists of changes are those of the definitions, and the engine stands for the history with it
+pub record IsAcceptedReply (new : EngineValue) (H : History) (e : Timed) (reply : Replies) : Type 0 where
+  pub says : reply.answer ≡ answer_of new.duration (steps_of new H) e.time e.event
+  pub before : reply.before.items ≡ changes_before (steps_of new H) e.time
+  pub after : reply.after.items ≡ changes_after (steps_of new H) (steps_of new (e ∷ H)) e.time
+  pub stands : StandsFor new (e ∷ H)
+
+-- the event is refused for this cause, without a change
+pub record IsRefusedReply (new : EngineValue) (H : History) (reply : Replies) (why : Cause) : Type 0 where
+  pub says : reply.answer ≡ answer.Refused why
+  pub before : reply.before.items ≡ []
+  pub after : reply.after.items ≡ []
+  pub stands : StandsFor new H
+
+-- the reply by the first cause that applies, if one does
+abbrev pub IsReplyBy : EngineValue → History → Timed → Replies → Option Cause → Type 0
+IsReplyBy new H e reply None = IsAcceptedReply new H e reply
+IsReplyBy new H e reply (Some why) = IsRefusedReply new H reply why
+
+-- the reply to an event after a history, and what the engine stands for then
+abbrev pub IsReply : EngineValue → History → Timed → Replies → Type 0
+IsReply new H e reply = IsReplyBy new H e reply (cause_of (steps_of new H) e.time e.event)
+
+-- a refusal as no line of the grammar
+pub record IsSyntaxRefusal (reply : Replies) : Type 0 where
+  pub says : reply.answer ≡ answer.Refused cause.Syntax
+  pub before : reply.before.items ≡ []
+  pub after : reply.after.items ≡ []
