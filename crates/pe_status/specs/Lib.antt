@@ -1,0 +1,4 @@
+pub mod Kept
+pub mod Numbers
+pub mod Places
+pub mod Registry
