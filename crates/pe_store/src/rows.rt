@@ -1,0 +1,125 @@
+//! Entries at their places, with the numbers of their pairs and what ends them.
+ghost use Rattle.std.specs.Prelude.{◌≡◌, ◌+◌, [], None, Some, IfSome, IfNone, OnOk, OnErr, length};
+ghost use Rattle.std.specs.Map.{values_of};
+ghost use Rattle.std.specs.Option.{option_copied};
+ghost use Rattle.pe_store.specs.Entries.{pair_of, entry_of, without};
+ghost use Rattle.pe_store.specs.Numbers.{number_of, IsChangedFor};
+ghost use Rattle.pe_store.specs.Places.{row_at, HasRow, is_moment_of, is_page_of, PutsEnd, DropsEnd};
+
+use crate::entry::Entry;
+use crate::key::Key;
+use crate::law::same_pairs_are_one;
+use crate::numbers::PairNumbers;
+use crate::place::{Endings, Place, drop_end, put_end};
+use pe_features::Feature;
+use std::alloc::{AllocError, Global};
+use std::collections::BTreeMap;
+use std::marker::Model;
+
+// The entries of a store at their places.
+#[derive(Drop)]
+pub(crate) struct Rows {
+    map: BTreeMap<Place, Entry>,
+    serials: PairNumbers,
+    endings: Endings,
+    next: u64,
+}
+
+impl Model for Rows {
+    ghost use Rattle.pe_store.specs.Places.{PlacedEntries, IsRows};
+
+    ghost Value = { PlacedEntries };
+
+    ghost view = { λ r. r.map.entries };
+
+    ghost invariant = { λ r. IsRows r.map.entries r.serials r.endings.moments.keys r.endings.pages.keys r.next };
+}
+
+// Notes down the number of an entry's pair and what ends it.
+fn note(
+    serials: &mut PairNumbers,
+    endings: &mut Endings,
+    entry: &Entry,
+    place: Place,
+) -> Result<(), AllocError>
+    ensures serials { OnOk result (IsChangedFor (pair_of entry.now) (Some place.serial) serials.old serials.new) }
+    ensures moments { OnOk result (PutsEnd is_moment_of entry.now.life place endings.old.moments.keys endings.new.moments.keys) }
+    ensures pages { OnOk result (PutsEnd is_page_of entry.now.life place endings.old.pages.keys endings.new.pages.keys) }
+    ensures serials_kept { OnErr result (number_of serials.old (pair_of entry.now) ≡ None → IsChangedFor (pair_of entry.now) None serials.old serials.new) }
+    ensures moments_kept { OnErr result (endings.new.moments.keys ≡ endings.old.moments.keys) }
+    ensures pages_kept { OnErr result (endings.new.pages.keys ≡ endings.old.pages.keys) }
+{
+    same_pairs_are_one();
+    let key = entry.key.copy()?;
+    serials.put(entry.feature, key, place.serial)?;
+    if put_end(endings, entry.life, place).is_err() {
+        serials.remove(entry.feature, &entry.key);
+        return Err(AllocError);
+    }
+    Ok(())
+}
+
+// Forgets the number of an entry's pair and what ends it.
+fn forget(serials: &mut PairNumbers, endings: &mut Endings, entry: &Entry, place: Place)
+    ensures serials { IsChangedFor (pair_of entry.now) None serials.old serials.new }
+    ensures moments { DropsEnd is_moment_of entry.now.life place endings.old.moments.keys endings.new.moments.keys }
+    ensures pages { DropsEnd is_page_of entry.now.life place endings.old.pages.keys endings.new.pages.keys }
+{
+    serials.remove(entry.feature, &entry.key);
+    drop_end(endings, entry.life, place);
+}
+
+impl Rows {
+    // No entry.
+    pub(crate) fn new(alloc: Global) -> Rows
+        ensures { result ≡ [] }
+    {
+        Rows {
+            map: BTreeMap::new(alloc),
+            serials: PairNumbers::new(alloc),
+            endings: Endings::new(alloc),
+            next: 0,
+        }
+    }
+
+    // How many entries there are.
+    pub(crate) fn len(&self) -> usize
+        ensures { result ≡ length self.now }
+    {
+        self.map.len()
+    }
+
+    // Where the entry of a pair stands.
+    pub(crate) fn place_of(&self, feature: Feature, key: &Key) -> Option<Place>
+        ensures none { IfNone result (entry_of (values_of self.now) (feature, key.now) ≡ None) }
+        ensures some { IfSome result (λ p. HasRow self.now p (feature, key.now)) }
+    {
+        same_pairs_are_one();
+        let serial = self.serials.number(feature, key)?;
+        Some(Place {
+            feature: feature.index(),
+            serial,
+        })
+    }
+
+    // The entry at a place.
+    pub(crate) fn at(&self, place: Place) -> Option<&Entry>
+        ensures value { option_copied result ≡ row_at self.now place }
+    {
+        self.map.get(&place)
+    }
+
+    // Takes the entry at a place out.
+    pub(crate) fn take(&mut self, place: Place) -> Option<Entry>
+        ensures value { result ≡ row_at self.old place }
+        ensures list { IfSome result (λ e. values_of self.new ≡ without (pair_of e) (values_of self.old)) }
+        ensures own { IfSome result (λ e. entry_of (values_of self.old) (pair_of e) ≡ Some e) }
+        ensures len { IfSome result (λ e. length self.new + 1 ≡ length self.old) }
+        ensures unchanged { IfNone result (self.new ≡ self.old) }
+    {
+        same_pairs_are_one();
+        let entry = self.map.remove(&place)?;
+        forget(&mut self.serials, &mut self.endings, &entry, place);
+        Some(entry)
+    }
+}
