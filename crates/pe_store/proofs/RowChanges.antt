@@ -54,6 +54,15 @@ drop-end : (s t h : Bool) → h && not (s && t) ≡ (s && false) || (h && not (s
 drop-end true t h = refl
 drop-end false t h = refl
 
+pub changed-back : (q : Pair) (w : Option ℕ) (s mid new : List KeyNumbers) → IsChangedFor q w s mid → IsChangedFor q None mid new → IsChangedFor q None s new
+unfolding IsChangedFor
+changed-back q w s mid new put dropped r =
+    dropped r ∙ ap (λ (o : Option ℕ). cond (is_same_pair q r) None o) (put r) ∙ twice (is_same_pair q r)
+  where
+    twice : (b : Bool) → cond b None (cond b w (number_of s r)) ≡ cond b None (number_of s r)
+    twice true = refl
+    twice false = refl
+
 module _ (pairs : (p q : Pair) → Decides (is_same_pair p q) (p ≡ q)) (rows : PlacedEntries) (serials : List KeyNumbers) (moments pages : List Ending) (next : ℕ) (is : IsRows rows serials moments pages next) where
   abbrev row : Place → Option Entry
   row p = row_at rows p
@@ -193,6 +202,41 @@ module _ (pairs : (p q : Pair) → Decides (is_same_pair p q) (p ≡ q)) (rows :
             rw none (sym (gone (test x.by new.life)))
         by_place false h = stays (has_life test x.by (row x.place))
 
+    -- the same where the place is known to be that one
+    module _ (p : Place) (at : p ≡ fresh) where
+      pub list-added-at : values_of (insert_entry place_cmp rows p new) ≡ put_entry new (values_of rows)
+      list-added-at = ap (λ (x : Place). values_of (insert_entry place_cmp rows x new)) at ∙ list-added
+
+      pub none-at : row p ≡ None
+      none-at = ap row at ∙ fresh-none
+
+      pub rows-added-at : (rows' : PlacedEntries) (serials' : List KeyNumbers) (moments' pages' : List Ending) (next' : ℕ) → IsStrictlySortedBy place_cmp (keys_of rows')
+          → ((r : Place) → row_at rows' r ≡ cond (is_at (place_cmp p) r) (Some new) (row r)) → IsChangedFor (pair_of new) (Some next) serials serials'
+          → PutsEnd is_moment_of new.life p moments moments' → PutsEnd is_page_of new.life p pages pages' → next' ≡ next + 1 → IsRows rows' serials' moments' pages' next'
+      rows-added-at rows' serials' moments' pages' next' ordered at-rows at-numbers put-moment put-page more =
+          subst (λ (n : ℕ). IsRows rows' serials' moments' pages' n) (sym more)
+          (rows-added rows' serials' moments' pages' ordered
+          (subst (λ (x : Place). (r : Place) → row_at rows' r ≡ cond (is_at (place_cmp x) r) (Some new) (row r)) at at-rows) at-numbers
+          (subst (λ (x : Place). PutsEnd is_moment_of new.life x moments moments') at put-moment) (subst (λ (x : Place). PutsEnd is_page_of new.life x pages pages') at put-page))
+
+      pub rows-undone : (rows' : PlacedEntries) (mid serials' : List KeyNumbers) (moments-mid moments' pages-mid pages' : List Ending) → rows' ≡ rows
+          → IsChangedFor (pair_of new) (Some next) serials mid → PutsEnd is_moment_of new.life p moments moments-mid → PutsEnd is_page_of new.life p pages pages-mid
+          → IsChangedFor (pair_of new) None mid serials' → DropsEnd is_moment_of new.life p moments-mid moments' → DropsEnd is_page_of new.life p pages-mid pages'
+          → IsRows rows' serials' moments' pages' next
+      rows-undone rows' mid serials' moments-mid moments' pages-mid pages' same put put-moment put-page dropped drop-moment drop-page =
+          subst (λ (es : PlacedEntries). IsRows es serials' moments' pages' next) (sym same)
+          (rows-kept serials' moments' pages' (changed-back (pair_of new) (Some next) serials mid serials' put dropped)
+          (endings-undone is_moment_of moments moments-mid moments' is.timed
+          (subst (λ (x : Place). PutsEnd is_moment_of new.life x moments moments-mid) at put-moment) (subst (λ (x : Place). DropsEnd is_moment_of new.life x moments-mid moments') at drop-moment))
+          (endings-undone is_page_of pages pages-mid pages' is.paged
+          (subst (λ (x : Place). PutsEnd is_page_of new.life x pages pages-mid) at put-page) (subst (λ (x : Place). DropsEnd is_page_of new.life x pages-mid pages') at drop-page)))
+
+      pub rows-refused : (serials' : List KeyNumbers) (moments' pages' : List Ending) → (number (pair_of new) ≡ None → IsChangedFor (pair_of new) None serials serials') → moments' ≡ moments → pages' ≡ pages
+          → IsRows rows serials' moments' pages' next
+      rows-refused serials' moments' pages' kept same-moments same-pages =
+          rows-kept serials' moments' pages' (kept absent) (subst (λ (ends : List Ending). AreEndings is_moment_of row ends) (sym same-moments) is.timed)
+          (subst (λ (ends : List Ending). AreEndings is_page_of row ends) (sym same-pages) is.paged)
+
   -- ---- an entry that is taken out
   module _ (p : Place) (e : Entry) (there : row p ≡ Some e) where
     pub list-taken : values_of (remove_entry (is_at (place_cmp p)) rows) ≡ without (pair_of e) (values_of rows)
@@ -247,15 +291,6 @@ changed-to-none pairs q s new same none r = ap (λ (lists : List KeyNumbers). nu
     by_test : (b : Bool) → is_same_pair q r ≡ b → number_of s r ≡ cond b None (number_of s r)
     by_test true h = ap (number_of s) (sym ((pairs q r).0 h)) ∙ none
     by_test false h = refl
-
-pub changed-back : (q : Pair) (w : Option ℕ) (s mid new : List KeyNumbers) → IsChangedFor q w s mid → IsChangedFor q None mid new → IsChangedFor q None s new
-unfolding IsChangedFor
-changed-back q w s mid new put dropped r =
-    dropped r ∙ ap (λ (o : Option ℕ). cond (is_same_pair q r) None o) (put r) ∙ twice (is_same_pair q r)
-  where
-    twice : (b : Bool) → cond b None (cond b w (number_of s r)) ≡ cond b None (number_of s r)
-    twice true = refl
-    twice false = refl
 
 pub on-err : {T E P : Type 0} (r : Result T E) → P → OnErr r P
 on-err (Ok x) p = tt

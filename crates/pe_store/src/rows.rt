@@ -1,10 +1,13 @@
 //! Entries at their places, with the numbers of their pairs and what ends them.
-ghost use Rattle.std.specs.Prelude.{◌≡◌, ◌+◌, [], None, Some, IfSome, IfNone, OnOk, OnErr, length};
-ghost use Rattle.std.specs.Map.{values_of};
+ghost use Rattle.std.specs.Prelude.{◌≡◌, ◌+◌, [], None, Some, IfSome, IfErr, IfNone, OnOk, OnErr, length, if◌then◌else◌};
+ghost use Rattle.std.specs.BTreeMap.{insert_entry, is_at};
+ghost use Rattle.std.specs.List.Sorted.{IsStrictlySortedBy};
+ghost use Rattle.std.specs.Map.{keys_of, values_of};
 ghost use Rattle.std.specs.Option.{option_copied};
-ghost use Rattle.pe_store.specs.Entries.{pair_of, entry_of, without};
+ghost use Rattle.pe_store.specs.Entries.{pair_of, entry_of, put_entry, without};
 ghost use Rattle.pe_store.specs.Numbers.{number_of, IsChangedFor};
-ghost use Rattle.pe_store.specs.Places.{row_at, HasRow, is_moment_of, is_page_of, PutsEnd, DropsEnd};
+ghost use Rattle.pe_store.specs.declared.place.Place.{Place};
+ghost use Rattle.pe_store.specs.Places.{row_at, place_cmp, HasRow, is_moment_of, is_page_of, PutsEnd, DropsEnd};
 
 use crate::entry::Entry;
 use crate::key::Key;
@@ -69,6 +72,39 @@ fn forget(serials: &mut PairNumbers, endings: &mut Endings, entry: &Entry, place
     drop_end(endings, entry.life, place);
 }
 
+// The same, and lets the entry go.
+fn forget_all(serials: &mut PairNumbers, endings: &mut Endings, entry: Entry, place: Place)
+    ensures serials { IsChangedFor (pair_of entry) None serials.old serials.new }
+    ensures moments { DropsEnd is_moment_of entry.life place endings.old.moments.keys endings.new.moments.keys }
+    ensures pages { DropsEnd is_page_of entry.life place endings.old.pages.keys endings.new.pages.keys }
+{
+    forget(serials, endings, &entry, place);
+}
+
+// Lets an entry go that stood at the place.
+fn let_go(_entry: Option<Entry>) {}
+
+// Puts an entry at a place, or gives it back where memory wants.
+fn put_row(map: &mut BTreeMap<Place, Entry>, place: Place, entry: Entry) -> Result<(), Entry>
+    ensures entries { OnOk result (map.new.entries ≡ insert_entry place_cmp map.old.entries place entry) }
+    ensures rows { OnOk result ((r : Place) → row_at map.new.entries r ≡ if is_at (place_cmp place) r then Some entry else row_at map.old.entries r) }
+    ensures len { OnOk result (row_at map.old.entries place ≡ None → length map.new.entries ≡ length map.old.entries + 1) }
+    ensures given_back { IfErr result (λ e. e ≡ entry) }
+    ensures kept { OnErr result (map.new.entries ≡ map.old.entries) }
+    ensures ordered { IsStrictlySortedBy place_cmp (keys_of map.new.entries) }
+{
+    match map.insert(place, entry) {
+        Ok(old) => {
+            let_go(old);
+            Ok(())
+        }
+        Err(failed) => {
+            let (_, entry) = failed.value;
+            Err(entry)
+        }
+    }
+}
+
 impl Rows {
     // No entry.
     pub(crate) fn new(alloc: Global) -> Rows
@@ -107,6 +143,34 @@ impl Rows {
         ensures value { option_copied result ≡ row_at self.now place }
     {
         self.map.get(&place)
+    }
+
+    // Puts an entry of a pair that has none behind those of its feature.
+    pub(crate) fn insert(&mut self, entry: Entry) -> Result<(), AllocError>
+        requires absent { entry_of (values_of self.old) (pair_of entry) ≡ None }
+        ensures list { OnOk result (values_of self.new ≡ put_entry entry (values_of self.old)) }
+        ensures len { OnOk result (length self.new ≡ length self.old + 1) }
+        ensures err { OnErr result (self.new ≡ self.old) }
+    {
+        same_pairs_are_one();
+        let Some(next) = self.next.checked_add(1) else {
+            return Err(AllocError);
+        };
+        let place = Place {
+            feature: entry.feature.index(),
+            serial: self.next,
+        };
+        note(&mut self.serials, &mut self.endings, &entry, place)?;
+        match put_row(&mut self.map, place, entry) {
+            Ok(()) => {
+                self.next = next;
+                Ok(())
+            }
+            Err(entry) => {
+                forget_all(&mut self.serials, &mut self.endings, entry, place);
+                Err(AllocError)
+            }
+        }
     }
 
     // Takes the entry at a place out.
