@@ -5,3 +5,4 @@ pub mod Endings
 pub mod Sorted
 pub mod Numbered
 pub mod RowChanges
+pub mod Lists

@@ -1,6 +1,6 @@
 -- Numbers kept under pairs of a feature and a key: for each feature, by its number, a list of keys with their numbers.
 -- What a pair's number is never depends on the order of such a list.
-use Rattle.std.specs.Prelude.{◌≡◌, ℕ, ◌==◌, Bool, ◌&&◌, List, [], length, Option, None, Some, slice_index_or, if◌then◌else◌}
+use Rattle.std.specs.Prelude.{◌≡◌, ℕ, ◌==◌, ◌&&◌, List, [], length, Option, None, slice_index_or, if◌then◌else◌}
 use Rattle.std.specs.Map.{lookup}
 use Rattle.pe_features.specs.Features.{feature_number}
 use Rattle.pe_store.specs.declared.key.Key.{Key}

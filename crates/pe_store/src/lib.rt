@@ -7,7 +7,9 @@ mod law;
 mod numbers;
 mod place;
 mod rows;
+mod store;
 
 pub use entry::{Entry, StoreFault};
 pub use key::{Key, Life};
 pub use law::same_pairs_are_one;
+pub use store::Store;

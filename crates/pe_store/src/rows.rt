@@ -138,6 +138,16 @@ impl Rows {
         })
     }
 
+    // The entry of a pair.
+    pub(crate) fn get(&self, feature: Feature, key: &Key) -> Option<&Entry>
+        ensures value { option_copied result ≡ entry_of (values_of self.now) (feature, key.now) }
+    {
+        match self.place_of(feature, key) {
+            Some(place) => self.at(place),
+            None => None,
+        }
+    }
+
     // The entry at a place.
     pub(crate) fn at(&self, place: Place) -> Option<&Entry>
         ensures value { option_copied result ≡ row_at self.now place }

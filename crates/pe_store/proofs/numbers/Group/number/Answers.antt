@@ -1,4 +1,4 @@
-use Rattle.std.proofs.Common.{◌≡◌, ◌∙◌, ap}
+use Rattle.std.proofs.Common.{◌∙◌, ap}
 use Rattle.pe_store.specs.Numbers.{KeyNumbers, number_in}
 use Rattle.pe_store.proofs.NumberChanges.{number-is}
 use Rattle.pe_store.proofs.numbers.Group.number.Goals as goal

@@ -1,4 +1,4 @@
-use Rattle.std.proofs.Common.{◌≡◌, ◌∙◌, ap, List}
+use Rattle.std.proofs.Common.{◌∙◌, ap, List}
 use Rattle.pe_store.specs.Numbers.{KeyNumbers, number_of}
 use Rattle.pe_store.proofs.NumberChanges.{number-for}
 use Rattle.pe_store.proofs.numbers.PairNumbers.number.Goals as goal

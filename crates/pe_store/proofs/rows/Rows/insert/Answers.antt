@@ -1,10 +1,10 @@
-use Rattle.std.proofs.Common.{◌≡◌, ◌+◌, ◌∙◌, sym, ap, subst, refl, ℕ, List, None, Some, arith, length}
+use Rattle.std.proofs.Common.{◌≡◌, ◌+◌, ◌∙◌, sym, ap, subst, refl, None, arith, length}
 use Rattle.std.specs.Map.{values_of}
 use Rattle.pe_features.specs.Features.{feature_number}
 use Rattle.pe_store.specs.declared.entry.Entry.{Entry}
 use Rattle.pe_store.specs.declared.place.Place.{Place}
 use Rattle.pe_store.specs.Entries.{pair_of, entry_of, put_entry}
-use Rattle.pe_store.specs.Numbers.{number_of, IsChangedFor}
+use Rattle.pe_store.specs.Numbers.{IsChangedFor}
 use Rattle.pe_store.specs.Places.{PlacedEntries, DropsEnd, is_moment_of, is_page_of}
 use Rattle.pe_store.proofs.Numbered.{place-parts}
 use Rattle.pe_store.proofs.RowChanges.{absent-number, rows-refused, rows-added-at, rows-undone, list-added-at, none-at}

@@ -1,4 +1,4 @@
-use Rattle.std.proofs.Common.{◌≡◌, ◌∙◌, sym, subst, None, Some}
+use Rattle.std.proofs.Common.{◌≡◌, sym, subst, None}
 use Rattle.std.specs.Map.{values_of}
 use Rattle.pe_store.specs.Entries.{entry_of}
 use Rattle.pe_store.specs.Numbers.{number_of}
