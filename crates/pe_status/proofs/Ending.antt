@@ -8,7 +8,7 @@ use Rattle.pe_status.specs.declared.index.Index.{Index}
 use Rattle.pe_status.specs.declared.place.Place.{Place}
 use Rattle.pe_status.specs.declared.registered.Registered.{Registered}
 use Rattle.pe_status.specs.Kept.{IsFreed, IsWithout}
-use Rattle.pe_status.specs.Numbers.{KeyNumbers}
+use Rattle.pe_store.specs.Numbers.{KeyNumbers}
 use Rattle.pe_status.specs.Places.{place, value_at, is_taken}
 
 pub ending : (r : Registered) (group n : ℕ) (old : Index) (rows : BTreeMap Place Registered) (pairs : List KeyNumbers) (owned : BTreeSet Place) (pages : List (ℕ × ℕ)) (p : Place)

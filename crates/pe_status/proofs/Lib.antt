@@ -4,8 +4,6 @@ pub mod Pages
 pub mod Keeping
 pub mod Walking
 pub mod Placing
-pub mod NumberChanges
-pub mod SameKey
 pub mod Searching
 pub mod Grouped
 pub mod Numbering

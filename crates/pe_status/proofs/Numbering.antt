@@ -8,7 +8,7 @@ use Rattle.pe_store.specs.Pairs.{Pair, is_same_pair}
 use Rattle.pe_status.specs.declared.place.Place.{Place}
 use Rattle.pe_status.specs.declared.registered.Registered.{Registered}
 use Rattle.pe_status.specs.Kept.{IsFreed}
-use Rattle.pe_status.specs.Numbers.{KeyNumbers, number_of, IsChangedFor}
+use Rattle.pe_store.specs.Numbers.{KeyNumbers, number_of, IsChangedFor}
 use Rattle.pe_status.specs.Places.{value_at}
 use Rattle.pe_status.specs.Registry.{pair_of}
 

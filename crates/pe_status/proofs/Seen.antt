@@ -3,7 +3,7 @@ use Rattle.std.proofs.Common.{◌≡◌, ℕ, ◌+◌, ◌<◌, ◌≤◌, Bool,
 use Rattle.std.specs.Prelude.{option_and_then, IfSome, ◌^◌}
 use Rattle.pe_base.specs.declared.limits.TheConstants.{STATUS_LIMIT, EVENT_LIMIT}
 use Rattle.pe_counts.specs.Counts.{count_of}
-use Rattle.pe_status.specs.Numbers.{number_of}
+use Rattle.pe_store.specs.Numbers.{number_of}
 use Rattle.std.specs.Bool.{Decides}
 use Rattle.pe_store.specs.Pairs.{Pair, is_same_pair}
 use Rattle.pe_status.specs.declared.giving.Given.{Given}

@@ -6,7 +6,7 @@ use Rattle.std.specs.BTreeMap.{BTreeMap}
 use Rattle.std.specs.BTreeSet.{BTreeSet}
 use Rattle.pe_base.specs.declared.limits.TheConstants.{STATUS_LIMIT, EVENT_LIMIT}
 use Rattle.pe_store.specs.Pairs.{Pair, is_same_pair}
-use Rattle.pe_status.specs.Numbers.{KeyNumbers, number_of}
+use Rattle.pe_store.specs.Numbers.{KeyNumbers, number_of}
 use Rattle.pe_status.specs.declared.giving.Given.{Given}
 use Rattle.pe_status.specs.declared.index.Index.{Index}
 use Rattle.pe_status.specs.declared.place.Place.{Place}

@@ -1,4 +1,3 @@
 pub mod Kept
-pub mod Numbers
 pub mod Places
 pub mod Registry

@@ -6,14 +6,13 @@ ghost use Rattle.pe_counts.specs.Counts.{count_of};
 ghost use Rattle.pe_status.specs.Registry.{pair_of};
 ghost use Rattle.pe_status.specs.Kept.{IsAlike, IsWith, IsWithout, IsFreed, IsLeft, IsPut, IsFirstOf, number_for};
 ghost use Rattle.pe_store.specs.Pairs.{is_same_pair};
-ghost use Rattle.pe_status.specs.Numbers.{number_of};
+ghost use Rattle.pe_store.specs.Numbers.{number_of};
 
-use crate::numbers::PairNumbers;
 use crate::place::{Place, free_place, group_from, put_row, take_place, take_row};
 use crate::registered::Registered;
 use pe_base::DocNo;
 use pe_counts::PageCounts;
-use pe_store::same_pairs_are_one;
+use pe_store::{PairNumbers, same_pairs_are_one};
 use std::alloc::{AllocError, Global};
 use std::collections::{BTreeMap, BTreeSet};
 

@@ -4,7 +4,6 @@
 
 mod giving;
 mod index;
-mod numbers;
 mod place;
 mod registered;
 mod statuses;

@@ -12,4 +12,5 @@ mod store;
 pub use entry::{Entry, StoreFault};
 pub use key::{Key, Life};
 pub use law::same_pairs_are_one;
+pub use numbers::PairNumbers;
 pub use store::Store;

@@ -86,9 +86,10 @@ fn remove_at(groups: &mut [Group], place: usize, key: &Key)
     groups[place].remove(key);
 }
 
-// Numbers under pairs: a group for each feature, by its number.
+/// Numbers under pairs of a feature and a permission key. A call costs what one look-up by the hash of a
+/// key costs, however many pairs have numbers.
 #[derive(Drop)]
-pub(crate) struct PairNumbers {
+pub struct PairNumbers {
     groups: [Group; 16],
 }
 
@@ -104,8 +105,8 @@ impl Model for PairNumbers {
 }
 
 impl PairNumbers {
-    // No number.
-    pub(crate) fn new(alloc: Global) -> PairNumbers
+    /// No number. Nothing is allocated.
+    pub fn new(alloc: Global) -> PairNumbers
         ensures { HoldsNone result }
     {
         PairNumbers {
@@ -130,23 +131,23 @@ impl PairNumbers {
         }
     }
 
-    // The number of a pair.
-    pub(crate) fn number(&self, feature: Feature, key: &Key) -> Option<u64>
+    /// The number of a pair.
+    pub fn number(&self, feature: Feature, key: &Key) -> Option<u64>
         ensures { result ≡ number_of self.now (feature, key.now) }
     {
         number_at(&self.groups, feature.index(), key)
     }
 
-    // Gives a pair its number.
-    pub(crate) fn put(&mut self, feature: Feature, key: Key, number: u64) -> Result<(), AllocError>
+    /// Gives a pair its number, in place of one that it has. `AllocError` where memory wants.
+    pub fn put(&mut self, feature: Feature, key: Key, number: u64) -> Result<(), AllocError>
         ensures ok { OnOk result (IsChangedFor (feature, key) (Some number) self.old self.new) }
         ensures err { OnErr result (self.new ≡ self.old) }
     {
         put_at(&mut self.groups, feature.index(), key, number)
     }
 
-    // Takes the number of a pair away.
-    pub(crate) fn remove(&mut self, feature: Feature, key: &Key)
+    /// Takes the number of a pair away, if it has one.
+    pub fn remove(&mut self, feature: Feature, key: &Key)
         ensures { IsChangedFor (feature, key.now) None self.old self.new }
     {
         remove_at(&mut self.groups, feature.index(), key);

@@ -1,4 +1,4 @@
-use Rattle.pe_status.specs.Numbers.{HoldsNone}
+use Rattle.pe_store.specs.Numbers.{HoldsNone}
 use Rattle.pe_status.proofs.Placing.{value-empty, taken-empty}
 use Rattle.pe_status.proofs.index.Index.new.Goals as goal
 

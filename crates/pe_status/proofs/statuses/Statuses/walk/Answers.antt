@@ -4,7 +4,7 @@ use Rattle.pe_status.specs.declared.registered.Registered.{Registered}
 use Rattle.pe_status.specs.Registry.{Registry, AreBelow, later_under}
 use Rattle.pe_status.specs.Kept.{pair_given, numbers, values_from, first_no}
 use Rattle.pe_status.specs.Places.{value_at}
-use Rattle.pe_status.specs.Numbers.{number_of}
+use Rattle.pe_store.specs.Numbers.{number_of}
 use Rattle.pe_status.specs.Places.{is_taken}
 use Rattle.pe_counts.specs.Counts.{count_of}
 use Rattle.pe_status.proofs.Seen.{order, group-fits}
