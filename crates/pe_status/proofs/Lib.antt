@@ -1,0 +1,12 @@
+pub mod Listed
+pub mod Live
+pub mod Pages
+pub mod Keeping
+pub mod Walking
+pub mod Placing
+pub mod Searching
+pub mod Grouped
+pub mod Numbering
+pub mod Ending
+pub mod Seen
+pub mod Going

@@ -1,0 +1,9 @@
+use Rattle.std.proofs.Common.{◌≡◌, length}
+use Rattle.pe_status.specs.Registry.{without_document}
+use Rattle.pe_status.proofs.statuses.Statuses.gone.Given as goal
+
+abbrev pub invariant-loop-no : goal.invariant-loop-no
+invariant-loop-no l = (l.self.given ≡ l.initial.self.given) × (without_document l.doc l.self.live ≡ without_document l.doc l.initial.self.live)
+
+abbrev pub decreases-loop-no : goal.decreases-loop-no
+decreases-loop-no l = length l.self.live

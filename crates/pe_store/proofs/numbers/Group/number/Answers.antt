@@ -1,0 +1,9 @@
+use Rattle.std.proofs.Common.{◌∙◌, ap}
+use Rattle.pe_store.specs.Numbers.{KeyNumbers, number_in}
+use Rattle.pe_store.proofs.NumberChanges.{number-is}
+use Rattle.pe_store.proofs.numbers.Group.number.Goals as goal
+
+pub returns : goal.returns
+returns c =
+    c.copied.ensures
+    ∙ (c.get.ensures.value ∙ (number-is c.same_pairs_are_one.ensures c.args.key.now c.self.inside.map.entries ∙ ap (λ (es : KeyNumbers). number_in es c.args.key.now) c.self.view_is))

@@ -1,0 +1,9 @@
+use Rattle.std.proofs.Common.{ap, ℕ, Option}
+use Rattle.std.specs.Option.{unwrap_or}
+use Rattle.pe_store.specs.Entries.{dismissals_of}
+use Rattle.pe_store.specs.Numbers.{HoldsNone}
+use Rattle.pe_store.proofs.store.Store.new.Goals as goal
+
+pub returns-clause-dismissals : goal.returns-clause-dismissals
+unfolding dismissals_of HoldsNone
+returns-clause-dismissals c = λ pair. ap (λ (o : Option ℕ). unwrap_or o 0) (c.new-2.ensures pair)

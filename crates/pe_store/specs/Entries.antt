@@ -1,0 +1,50 @@
+-- The entries of the permission store, one for each pair of a feature and a key.
+-- Permissions, "permission store", "permission store entry".
+use Rattle.std.specs.Prelude.{◌≡◌, ℕ, Bool, not, nat_lt, List, [], ◌∷◌, length, filter, find, Option, None, if◌then◌else◌}
+use Rattle.std.specs.Option.{unwrap_or}
+use Rattle.pe_base.specs.declared.limits.TheConstants.{STORE_LIMIT}
+use Rattle.pe_features.specs.Features.{feature_number}
+use Rattle.pe_store.specs.declared.entry.Entry.{Entry}
+use Rattle.pe_store.specs.Numbers.{KeyNumbers, number_of}
+use Rattle.pe_store.specs.Pairs.{Pair, is_same_pair}
+
+-- what a store holds: its entries, and how often each pair was dismissed since its last setting
+pub record StoreValue : Type 0 where
+  pub entries : List Entry
+  pub dismissals : List KeyNumbers
+
+-- how often a pair was dismissed since its last setting
+unfoldable pub dismissals_of : StoreValue → Pair → ℕ
+dismissals_of store pair = unwrap_or (number_of store.dismissals pair) 0
+
+-- the pair of an entry
+abbrev pub pair_of : Entry → Pair
+pair_of e = (e.feature, e.key)
+
+-- the entry is that of the pair
+abbrev pub is_of : Pair → Entry → Bool
+is_of pair e = is_same_pair (pair_of e) pair
+
+-- the entry of a pair
+unfoldable pub entry_of : List Entry → Pair → Option Entry
+entry_of entries pair = find (is_of pair) entries
+
+-- the entries without that of a pair
+unfoldable pub without : Pair → List Entry → List Entry
+without pair entries = filter (λ e. not (is_of pair e)) entries
+
+-- the entries with this one in the place of that of its pair, else behind those of its feature and of the features before it
+unfoldable pub put_entry : Entry → List Entry → List Entry
+put_entry new [] = new ∷ []
+put_entry new (e ∷ entries) =
+    if is_of (pair_of new) e then new ∷ entries
+    else (if nat_lt (feature_number new.feature) (feature_number e.feature) then new ∷ e ∷ entries else e ∷ put_entry new entries)
+
+-- there are as many entries as there may be, and none of the pair
+abbrev pub IsFull : List Entry → Pair → Type 0
+IsFull entries pair = (length entries ≡ STORE_LIMIT) × (entry_of entries pair ≡ None)
+
+-- no two entries are of one pair
+abbrev pub IsOnePerPair : List Entry → Type 0
+IsOnePerPair [] = Unit {0}
+IsOnePerPair (e ∷ entries) = (entry_of entries (pair_of e) ≡ None) × IsOnePerPair entries

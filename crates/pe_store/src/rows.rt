@@ -1,0 +1,199 @@
+//! Entries at their places, with the numbers of their pairs and what ends them.
+ghost use Rattle.std.specs.Prelude.{◌≡◌, ◌+◌, [], None, Some, IfSome, IfErr, IfNone, OnOk, OnErr, length, if◌then◌else◌};
+ghost use Rattle.std.specs.BTreeMap.{insert_entry, is_at};
+ghost use Rattle.std.specs.List.Sorted.{IsStrictlySortedBy};
+ghost use Rattle.std.specs.Map.{keys_of, values_of};
+ghost use Rattle.std.specs.Option.{option_copied};
+ghost use Rattle.pe_store.specs.Entries.{pair_of, entry_of, put_entry, without};
+ghost use Rattle.pe_store.specs.Numbers.{number_of, IsChangedFor};
+ghost use Rattle.pe_store.specs.declared.place.Place.{Place};
+ghost use Rattle.pe_store.specs.Places.{row_at, place_cmp, HasRow, is_moment_of, is_page_of, PutsEnd, DropsEnd};
+
+use crate::entry::Entry;
+use crate::key::Key;
+use crate::law::same_pairs_are_one;
+use crate::numbers::PairNumbers;
+use crate::place::{Endings, Place, drop_end, put_end};
+use pe_features::Feature;
+use std::alloc::{AllocError, Global};
+use std::collections::BTreeMap;
+use std::marker::Model;
+
+// The entries of a store at their places.
+#[derive(Drop)]
+pub(crate) struct Rows {
+    map: BTreeMap<Place, Entry>,
+    serials: PairNumbers,
+    endings: Endings,
+    next: u64,
+}
+
+impl Model for Rows {
+    ghost use Rattle.pe_store.specs.Places.{PlacedEntries, IsRows};
+
+    ghost Value = { PlacedEntries };
+
+    ghost view = { λ r. r.map.entries };
+
+    ghost invariant = { λ r. IsRows r.map.entries r.serials r.endings.moments.keys r.endings.pages.keys r.next };
+}
+
+// Notes down the number of an entry's pair and what ends it.
+fn note(
+    serials: &mut PairNumbers,
+    endings: &mut Endings,
+    entry: &Entry,
+    place: Place,
+) -> Result<(), AllocError>
+    ensures serials { OnOk result (IsChangedFor (pair_of entry.now) (Some place.serial) serials.old serials.new) }
+    ensures moments { OnOk result (PutsEnd is_moment_of entry.now.life place endings.old.moments.keys endings.new.moments.keys) }
+    ensures pages { OnOk result (PutsEnd is_page_of entry.now.life place endings.old.pages.keys endings.new.pages.keys) }
+    ensures serials_kept { OnErr result (number_of serials.old (pair_of entry.now) ≡ None → IsChangedFor (pair_of entry.now) None serials.old serials.new) }
+    ensures moments_kept { OnErr result (endings.new.moments.keys ≡ endings.old.moments.keys) }
+    ensures pages_kept { OnErr result (endings.new.pages.keys ≡ endings.old.pages.keys) }
+{
+    same_pairs_are_one();
+    let key = entry.key.copy()?;
+    serials.put(entry.feature, key, place.serial)?;
+    if put_end(endings, entry.life, place).is_err() {
+        serials.remove(entry.feature, &entry.key);
+        return Err(AllocError);
+    }
+    Ok(())
+}
+
+// Forgets the number of an entry's pair and what ends it.
+fn forget(serials: &mut PairNumbers, endings: &mut Endings, entry: &Entry, place: Place)
+    ensures serials { IsChangedFor (pair_of entry.now) None serials.old serials.new }
+    ensures moments { DropsEnd is_moment_of entry.now.life place endings.old.moments.keys endings.new.moments.keys }
+    ensures pages { DropsEnd is_page_of entry.now.life place endings.old.pages.keys endings.new.pages.keys }
+{
+    serials.remove(entry.feature, &entry.key);
+    drop_end(endings, entry.life, place);
+}
+
+// The same, and lets the entry go.
+fn forget_all(serials: &mut PairNumbers, endings: &mut Endings, entry: Entry, place: Place)
+    ensures serials { IsChangedFor (pair_of entry) None serials.old serials.new }
+    ensures moments { DropsEnd is_moment_of entry.life place endings.old.moments.keys endings.new.moments.keys }
+    ensures pages { DropsEnd is_page_of entry.life place endings.old.pages.keys endings.new.pages.keys }
+{
+    forget(serials, endings, &entry, place);
+}
+
+// Lets an entry go that stood at the place.
+fn let_go(_entry: Option<Entry>) {}
+
+// Puts an entry at a place, or gives it back where memory wants.
+fn put_row(map: &mut BTreeMap<Place, Entry>, place: Place, entry: Entry) -> Result<(), Entry>
+    ensures entries { OnOk result (map.new.entries ≡ insert_entry place_cmp map.old.entries place entry) }
+    ensures rows { OnOk result ((r : Place) → row_at map.new.entries r ≡ if is_at (place_cmp place) r then Some entry else row_at map.old.entries r) }
+    ensures len { OnOk result (row_at map.old.entries place ≡ None → length map.new.entries ≡ length map.old.entries + 1) }
+    ensures given_back { IfErr result (λ e. e ≡ entry) }
+    ensures kept { OnErr result (map.new.entries ≡ map.old.entries) }
+    ensures ordered { IsStrictlySortedBy place_cmp (keys_of map.new.entries) }
+{
+    match map.insert(place, entry) {
+        Ok(old) => {
+            let_go(old);
+            Ok(())
+        }
+        Err(failed) => {
+            let (_, entry) = failed.value;
+            Err(entry)
+        }
+    }
+}
+
+impl Rows {
+    // No entry.
+    pub(crate) fn new(alloc: Global) -> Rows
+        ensures { result ≡ [] }
+    {
+        Rows {
+            map: BTreeMap::new(alloc),
+            serials: PairNumbers::new(alloc),
+            endings: Endings::new(alloc),
+            next: 0,
+        }
+    }
+
+    // How many entries there are.
+    pub(crate) fn len(&self) -> usize
+        ensures { result ≡ length self.now }
+    {
+        self.map.len()
+    }
+
+    // Where the entry of a pair stands.
+    pub(crate) fn place_of(&self, feature: Feature, key: &Key) -> Option<Place>
+        ensures none { IfNone result (entry_of (values_of self.now) (feature, key.now) ≡ None) }
+        ensures some { IfSome result (λ p. HasRow self.now p (feature, key.now)) }
+    {
+        same_pairs_are_one();
+        let serial = self.serials.number(feature, key)?;
+        Some(Place {
+            feature: feature.index(),
+            serial,
+        })
+    }
+
+    // The entry of a pair.
+    pub(crate) fn get(&self, feature: Feature, key: &Key) -> Option<&Entry>
+        ensures value { option_copied result ≡ entry_of (values_of self.now) (feature, key.now) }
+    {
+        match self.place_of(feature, key) {
+            Some(place) => self.at(place),
+            None => None,
+        }
+    }
+
+    // The entry at a place.
+    pub(crate) fn at(&self, place: Place) -> Option<&Entry>
+        ensures value { option_copied result ≡ row_at self.now place }
+    {
+        self.map.get(&place)
+    }
+
+    // Puts an entry of a pair that has none behind those of its feature.
+    pub(crate) fn insert(&mut self, entry: Entry) -> Result<(), AllocError>
+        requires absent { entry_of (values_of self.old) (pair_of entry) ≡ None }
+        ensures list { OnOk result (values_of self.new ≡ put_entry entry (values_of self.old)) }
+        ensures len { OnOk result (length self.new ≡ length self.old + 1) }
+        ensures err { OnErr result (self.new ≡ self.old) }
+    {
+        same_pairs_are_one();
+        let Some(next) = self.next.checked_add(1) else {
+            return Err(AllocError);
+        };
+        let place = Place {
+            feature: entry.feature.index(),
+            serial: self.next,
+        };
+        note(&mut self.serials, &mut self.endings, &entry, place)?;
+        match put_row(&mut self.map, place, entry) {
+            Ok(()) => {
+                self.next = next;
+                Ok(())
+            }
+            Err(entry) => {
+                forget_all(&mut self.serials, &mut self.endings, entry, place);
+                Err(AllocError)
+            }
+        }
+    }
+
+    // Takes the entry at a place out.
+    pub(crate) fn take(&mut self, place: Place) -> Option<Entry>
+        ensures value { result ≡ row_at self.old place }
+        ensures list { IfSome result (λ e. values_of self.new ≡ without (pair_of e) (values_of self.old)) }
+        ensures own { IfSome result (λ e. entry_of (values_of self.old) (pair_of e) ≡ Some e) }
+        ensures len { IfSome result (λ e. length self.new + 1 ≡ length self.old) }
+        ensures unchanged { IfNone result (self.new ≡ self.old) }
+    {
+        same_pairs_are_one();
+        let entry = self.map.remove(&place)?;
+        forget(&mut self.serials, &mut self.endings, &entry, place);
+        Some(entry)
+    }
+}

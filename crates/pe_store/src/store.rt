@@ -1,0 +1,98 @@
+//! The permission store.
+ghost use Rattle.std.specs.Prelude.{◌≡◌, ◌+◌, ◌<◌, ◌≤◌, [], None, IsTrue, is_some, length, if◌then◌else◌};
+ghost use Rattle.std.specs.Option.{option_copied};
+ghost use Rattle.pe_base.specs.declared.limits.TheConstants.{STORE_LIMIT};
+ghost use Rattle.pe_store.specs.Entries.{dismissals_of, entry_of, without};
+ghost use Rattle.pe_store.specs.Pairs.{Pair, is_same_pair};
+
+use crate::entry::Entry;
+use crate::key::Key;
+use crate::law::same_pairs_are_one;
+use crate::numbers::PairNumbers;
+use crate::rows::Rows;
+use pe_base::Steps;
+use pe_features::Feature;
+use std::alloc::Global;
+use std::marker::Model;
+use std::sync::ledger::Ledger;
+
+/// The permission store (W3C Permissions, "permission store"). Contracts see the list of its entries, one for each
+/// pair of a feature and a key, and how often each pair was dismissed since its last setting.
+/// The entries are ordered by the features' numbers; within a feature a new entry comes last, and a setting of a pair
+/// that is there keeps its place.
+/// Looking up and clearing cost a logarithm of the entries.
+#[derive(Drop)]
+pub struct Store {
+    rows: Rows,
+    dismissals: PairNumbers,
+}
+
+impl Model for Store {
+    ghost use Rattle.std.specs.Prelude.{◌≤◌, length};
+    ghost use Rattle.std.specs.Map.{values_of};
+    ghost use Rattle.pe_base.specs.declared.limits.TheConstants.{STORE_LIMIT};
+    ghost use Rattle.pe_store.specs.Entries.{StoreValue};
+
+    ghost Value = { StoreValue };
+
+    ghost view = { λ s. record { entries = values_of s.rows; dismissals = s.dismissals } };
+
+    ghost invariant = { λ s. length s.rows ≤ STORE_LIMIT };
+}
+
+impl Store {
+    /// A store without entries, in which no pair was dismissed.
+    pub fn new(alloc: Global) -> Store
+        ensures entries { result.entries ≡ [] }
+        ensures dismissals { (pair : Pair) → dismissals_of result pair ≡ 0 }
+    {
+        Store {
+            rows: Rows::new(alloc),
+            dismissals: PairNumbers::new(alloc),
+        }
+    }
+
+    /// How many entries there are.
+    pub fn len(&self) -> usize
+        ensures count { result ≡ length self.now.entries }
+        ensures limit { result ≤ STORE_LIMIT }
+    {
+        self.rows.len()
+    }
+
+    /// The entry of a pair. Nothing is copied.
+    pub fn get<'s, L: Ledger>(
+        &'s self,
+        feature: Feature,
+        key: &Key,
+        steps: &mut Steps<L>,
+    ) -> Option<&'s Entry>
+        ensures value { option_copied result ≡ entry_of self.now.entries (feature, key.now) }
+        ensures cost { steps.new ≡ steps.old + 1 }
+    {
+        steps.tick();
+        self.rows.get(feature, key)
+    }
+
+    /// Takes the entry of a pair out, and says whether there was one. The other entries keep their order.
+    pub fn clear(&mut self, feature: Feature, key: &Key) -> bool
+        ensures list { self.new.entries ≡ without (feature, key.now) self.old.entries }
+        ensures found { (pair : Pair) → entry_of self.new.entries pair ≡ if is_same_pair (feature, key.now) pair then None else entry_of self.old.entries pair }
+        ensures there { result ≡ is_some (entry_of self.old.entries (feature, key.now)) }
+        ensures fewer { IsTrue result → length self.new.entries < length self.old.entries }
+        ensures dismissals { self.new.dismissals ≡ self.old.dismissals }
+    {
+        same_pairs_are_one();
+        match self.rows.place_of(feature, key) {
+            Some(place) => is_there(self.rows.take(place)),
+            None => false,
+        }
+    }
+}
+
+// Whether there is an entry, which is let go.
+fn is_there(entry: Option<Entry>) -> bool
+    ensures { result ≡ is_some entry }
+{
+    entry.is_some()
+}
