@@ -74,6 +74,13 @@ impl Store {
         self.rows.get(feature, key)
     }
 
+    /// How often a pair was dismissed since its last setting, or ever where it has had none.
+    pub fn dismissals(&self, feature: Feature, key: &Key) -> u64
+        ensures { result ≡ dismissals_of self.now (feature, key.now) }
+    {
+        self.dismissals.number(feature, key).unwrap_or(0)
+    }
+
     /// Sets what is stored for a pair: in the place of its entry where it has one, else behind the entries of its
     /// feature. How often the pair was dismissed is counted anew from here on.
     /// `Full` where there are as many entries as there may be and none of the pair; `Memory` where memory wants. All is
