@@ -1,5 +1,5 @@
 -- Endings that are put down and forgotten.
-use Rattle.std.proofs.Common.{◌≡◌, ℕ, Bool, true, false, ◌&&◌, ◌||◌, not, cond, List, Option, refl, sym, ap, ◌∙◌, arith}
+use Rattle.std.proofs.Common.{◌≡◌, ℕ, Bool, true, false, ◌&&◌, ◌||◌, not, cond, List, Option, refl, sym, ap, ◌∙◌, arith, subst, true≢false}
 use Rattle.std.specs.Prelude.{◌==◌}
 use Rattle.std.specs.BTreeMap.{is_at}
 use Rattle.std.specs.Ordering.{is_eq, nat_cmp, ordering_then}
@@ -11,7 +11,7 @@ use Rattle.pe_store.specs.declared.key.Life.{Life}
 use Rattle.pe_store.specs.declared.key.Life.TheVariants as life
 use Rattle.pe_store.specs.declared.place.Place.{Place}
 use Rattle.pe_store.specs.declared.place.Ending.{Ending}
-use Rattle.pe_store.specs.Places.{place_cmp, ending_cmp, is_same_place, has_ending, is_moment_of, is_page_of, has_life, PutsOne, DropsOne, PutsEnd, DropsEnd, AreEndings}
+use Rattle.pe_store.specs.Places.{place_cmp, ending_cmp, is_same_place, has_ending, is_moment_of, is_page_of, has_life, PutsOne, DropsOne, same_life, PutsEnd, DropsEnd, ChangesEnd, AreEndings}
 
 then-eq : (o r : Ordering) → is_eq (ordering_then o r) ≡ is_eq r && is_eq o
 then-eq Less Less = refl
@@ -129,3 +129,58 @@ ended-changed test p w v rows rows' old new there at-rows exact ended change x =
         let turn : has_ending new x ≡ has_ending old x && true =
         change x ∙ ap (λ b. (b && has_life test x.by w) || (has_ending old x && not (b && has_life test x.by v))) apart in
         turn ∙ stay (has_ending old x) ∙ ended x ∙ ap (has_life test x.by) (sym row')
+
+-- ---- one ending in the place of another
+
+same-life-is : (a b : Life) → same_life a b ≡ true → a ≡ b
+same-life-is life.Forever life.Forever h = refl
+same-life-is life.Forever (life.Until b) h = cc
+same-life-is life.Forever (life.Page b) h = cc
+same-life-is (life.Until a) life.Forever h = cc
+same-life-is (life.Until a) (life.Until b) h = let e : a ≡ b = grind (arith, nat_tests) in ap life.Until e
+same-life-is (life.Until a) (life.Page b) h = cc
+same-life-is (life.Page a) life.Forever h = cc
+same-life-is (life.Page a) (life.Until b) h = cc
+same-life-is (life.Page a) (life.Page b) h = let e : a ≡ b = grind (arith, nat_tests) in ap life.Page e
+
+numbers-apart : (n a b : ℕ) → (a == b) ≡ false → (n == a) ≡ true → (n == b) ≡ false
+numbers-apart n a b h k = grind (arith, nat_tests)
+
+pub apart-moments : (a b : Life) → same_life a b ≡ false → (n : ℕ) → is_moment_of n a ≡ true → is_moment_of n b ≡ false
+apart-moments life.Forever b h n k = cc
+apart-moments (life.Page a) b h n k = cc
+apart-moments (life.Until a) life.Forever h n k = refl
+apart-moments (life.Until a) (life.Page b) h n k = refl
+apart-moments (life.Until a) (life.Until b) h n k = numbers-apart n a b h k
+
+pub apart-pages : (a b : Life) → same_life a b ≡ false → (n : ℕ) → is_page_of n a ≡ true → is_page_of n b ≡ false
+apart-pages life.Forever b h n k = cc
+apart-pages (life.Until a) b h n k = cc
+apart-pages (life.Page a) life.Forever h n k = refl
+apart-pages (life.Page a) (life.Until b) h n k = refl
+apart-pages (life.Page a) (life.Page b) h n k = numbers-apart n a b h k
+
+again : (a h : Bool) → a || h ≡ a || (h && not a)
+again true h = refl
+again false true = refl
+again false false = refl
+
+pub changes-alike : (test : ℕ → Life → Bool) (was l : Life) (p : Place) (old new : List Ending) → same_life was l ≡ true → PutsEnd test l p old new → ChangesEnd test was l p old new
+unfolding PutsEnd ChangesEnd
+changes-alike test was l p old new alike h x =
+    h x ∙ again (is_same_place p x.place && test x.by l) (has_ending old x)
+    ∙ ap (λ (w : Life). (is_same_place p x.place && test x.by l) || (has_ending old x && not (is_same_place p x.place && test x.by w))) (sym (same-life-is was l alike))
+
+split : (s w l h : Bool) → (w ≡ true → l ≡ false) → ((s && l) || h) && not (s && w) ≡ (s && l) || (h && not (s && w))
+split false w l h f = refl
+split true true true h f = absurd (true≢false (f refl))
+split true true false h f = refl
+split true false true h f = refl
+split true false false h f = refl
+
+pub changes-apart : (test : ℕ → Life → Bool) (was l : Life) (p : Place) (old mid new : List Ending) → ((n : ℕ) → test n was ≡ true → test n l ≡ false) → PutsEnd test l p old mid → DropsEnd test was p mid new
+    → ChangesEnd test was l p old new
+unfolding PutsEnd DropsEnd ChangesEnd
+changes-apart test was l p old mid new apart put dropped x =
+    dropped x ∙ ap (λ b. b && not (is_same_place p x.place && test x.by was)) (put x)
+    ∙ split (is_same_place p x.place) (test x.by was) (test x.by l) (has_ending old x) (apart x.by)

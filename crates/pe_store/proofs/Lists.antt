@@ -1,12 +1,14 @@
 -- Look-ups in lists of entries.
-use Rattle.std.proofs.Common.{◌≡◌, ℕ, zero, suc, ◌+◌, ◌<◌, ◌≤◌, Bool, true, false, not, List, [], ◌∷◌, length, filter, Option, Some, None, slice_get, refl, sym, ◌∙◌, ap, arith, cond, subst, true≢false, Bor, IfSome}
+use Rattle.std.proofs.Common.{◌≡◌, ℕ, zero, suc, ◌+◌, ◌<◌, ◌≤◌, Bool, true, false, not, List, [], ◌∷◌, length, filter, Option, Some, None, slice_get, refl, sym, ◌∙◌, ap, arith, cond, subst, true≢false, Bor, IfSome, nat_lt}
 use Rattle.std.specs.Bool.{Decides}
 use Rattle.std.specs.List.{find, remove}
 use Rattle.std.specs.Map.{values_of}
-use Rattle.std.specs.Option.{option_copied}
+use Rattle.std.specs.Option.{option_copied, unwrap_or}
+use Rattle.pe_features.specs.Features.{feature_number}
 use Rattle.pe_store.specs.declared.entry.Entry.{Entry}
 use Rattle.pe_store.specs.declared.place.Place.{Place}
-use Rattle.pe_store.specs.Entries.{pair_of, is_of, entry_of, without, IsOnePerPair}
+use Rattle.pe_store.specs.Entries.{StoreValue, dismissals_of, pair_of, is_of, entry_of, without, put_entry, IsOnePerPair}
+use Rattle.pe_store.specs.Numbers.{number_of, IsChangedFor}
 use Rattle.pe_store.specs.Pairs.{Pair, is_same_pair}
 use Rattle.pe_store.specs.Places.{PlacedEntries, row_at, HasRow}
 
@@ -168,3 +170,43 @@ module _ (pairs : (p q : Pair) → Decides (is_same_pair p q) (p ≡ q)) where
   pub fewer-cleared : (q : Pair) (old new : PlacedEntries) (p : Place) (r : Option Entry) → HasRow old p q → r ≡ row_at old p
       → IfSome r (λ e. length new + 1 ≡ length old) → length new + 1 ≡ length old
   fewer-cleared q old new p r h is holds = row-taken q old p r (λ e. length new + 1 ≡ length old) h is holds
+
+  -- a setting is found for its pair, and every other pair has what it had
+  pub found-put : (n : Entry) (q : Pair) (es : List Entry) → entry_of (put_entry n es) q ≡ cond (is_same_pair (pair_of n) q) (Some n) (entry_of es q)
+  unfolding entry_of put_entry
+  found-put n q [] = refl
+  found-put n q (e ∷ es) = by_pair (is_same_pair (pair_of e) (pair_of n)) refl (found-put n q es)
+    where
+      replaced : (b c : Bool) → b ≡ c → cond b (Some n) (find (is_of q) es) ≡ cond b (Some n) (cond c (Some e) (find (is_of q) es))
+      replaced true true h = refl
+      replaced false false h = refl
+      replaced true false h = absurd (true≢false h)
+      replaced false true h = absurd (true≢false (sym h))
+
+      passed : (b c : Bool) → is_same_pair (pair_of n) q ≡ b → is_same_pair (pair_of e) q ≡ c → is_same_pair (pair_of e) (pair_of n) ≡ false
+          → cond c (Some e) (cond b (Some n) (find (is_of q) es)) ≡ cond b (Some n) (cond c (Some e) (find (is_of q) es))
+      passed false c is here other = refl
+      passed true false is here other = refl
+      passed true true is here other = absurd (true≢false (sym is ∙ same-apart (pair_of e) (pair_of n) q other here))
+
+      by_place : (l : Bool) → is_same_pair (pair_of e) (pair_of n) ≡ false → find (is_of q) (put_entry n es) ≡ cond (is_same_pair (pair_of n) q) (Some n) (find (is_of q) es)
+          → find (is_of q) (cond l (n ∷ e ∷ es) (e ∷ put_entry n es)) ≡ cond (is_same_pair (pair_of n) q) (Some n) (cond (is_same_pair (pair_of e) q) (Some e) (find (is_of q) es))
+      by_place true other rest = refl
+      by_place false other rest =
+          ap (λ (o : Option Entry). cond (is_same_pair (pair_of e) q) (Some e) o) rest ∙ passed (is_same_pair (pair_of n) q) (is_same_pair (pair_of e) q) refl refl other
+
+      by_pair : (b : Bool) → is_same_pair (pair_of e) (pair_of n) ≡ b → find (is_of q) (put_entry n es) ≡ cond (is_same_pair (pair_of n) q) (Some n) (find (is_of q) es)
+          → find (is_of q) (cond b (n ∷ es) (cond (nat_lt (feature_number n.feature) (feature_number e.feature)) (n ∷ e ∷ es) (e ∷ put_entry n es)))
+          ≡ cond (is_same_pair (pair_of n) q) (Some n) (cond (is_same_pair (pair_of e) q) (Some e) (find (is_of q) es))
+      by_pair true is rest = replaced (is_same_pair (pair_of n) q) (is_same_pair (pair_of e) q) (same-as (pair_of e) (pair_of n) q is)
+      by_pair false is rest = by_place (nat_lt (feature_number n.feature) (feature_number e.feature)) is rest
+
+-- ---- how often pairs were dismissed
+
+pub counts-anew : (q : Pair) (old new : StoreValue) → IsChangedFor q None old.dismissals new.dismissals → (pair : Pair) → dismissals_of new pair ≡ cond (is_same_pair q pair) 0 (dismissals_of old pair)
+unfolding dismissals_of IsChangedFor
+counts-anew q old new changed pair = ap (λ (o : Option ℕ). unwrap_or o 0) (changed pair) ∙ by_test (is_same_pair q pair) (number_of old.dismissals pair)
+  where
+    by_test : (b : Bool) (o : Option ℕ) → unwrap_or (cond b None o) 0 ≡ cond b 0 (unwrap_or o 0)
+    by_test true o = refl
+    by_test false o = refl

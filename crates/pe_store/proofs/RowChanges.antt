@@ -1,5 +1,5 @@
 -- What the rows of a store say of the list of its entries, and what a change of one row does.
-use Rattle.std.proofs.Common.{◌≡◌, ℕ, ◌+◌, ◌<◌, Bool, true, false, ◌&&◌, ◌||◌, not, cond, List, [], ◌∷◌, filter, Option, Some, None, refl, sym, ◌∙◌, ap, subst, arith, true≢false, nat_lt, Result, Ok, Err, OnErr, IfNone}
+use Rattle.std.proofs.Common.{◌≡◌, ℕ, ◌+◌, ◌<◌, Bool, true, false, ◌&&◌, ◌||◌, not, cond, List, [], ◌∷◌, filter, Option, Some, None, refl, sym, ◌∙◌, ap, subst, arith, true≢false, nat_lt, Result, Ok, Err, OnOk, OnErr, IfNone}
 use Rattle.std.specs.Bool.{Decides}
 use Rattle.std.specs.List.{find, AllByRecursion}
 use Rattle.std.specs.List.Sorted.{IsStrictlySortedBy}
@@ -16,10 +16,10 @@ use Rattle.pe_store.specs.declared.place.Ending.{Ending}
 use Rattle.pe_store.specs.Entries.{pair_of, is_of, entry_of, without, put_entry}
 use Rattle.pe_store.specs.Numbers.{KeyNumbers, number_of, HoldsNone, IsChangedFor}
 use Rattle.pe_store.specs.Pairs.{Pair, is_same_pair}
-use Rattle.pe_store.specs.Places.{place_cmp, is_same_place, has_ending, has_life, is_moment_of, is_page_of, PutsEnd, DropsEnd, AreEndings, PlacedEntries, row_at, IsNumbered, IsRows, HasRow}
+use Rattle.pe_store.specs.Places.{place_cmp, is_same_place, has_ending, has_life, is_moment_of, is_page_of, PutsEnd, DropsEnd, ChangesEnd, AreEndings, PlacedEntries, row_at, IsNumbered, IsRows, HasRow}
 use Rattle.pe_store.proofs.Endings.{ended-changed}
 use Rattle.pe_store.proofs.Numbered.{place-total, place-exact, place-itself, place-parts, IsPlaceOf, place-known, place-fresh, pair-fresh, changed}
-use Rattle.pe_store.proofs.Sorted.{put_sorted, all-rows, Agrees, find-agrees, remove-agrees, insert-fresh}
+use Rattle.pe_store.proofs.Sorted.{put_sorted, all-rows, Agrees, find-agrees, remove-agrees, insert-fresh, insert-there}
 
 put-is : (n : Entry) (es : List Entry) → put_entry n es ≡ put_sorted (is_of (pair_of n)) (λ (e : Entry). nat_lt (feature_number n.feature) (feature_number e.feature)) n es
 unfolding put_entry
@@ -41,6 +41,9 @@ none-found q (r ∷ rows) h = rw h.0 (none-found q rows h.1)
 
 above-is : (f g s n : ℕ) (p : Place) → p.feature ≡ g → p.serial < n → ordering_then (nat_cmp f p.feature) (nat_cmp n p.serial) ≡ cond (nat_lt f g) Less Greater
 above-is f g s n p is low = grind (arith, nat_tests)
+
+low-is : (f g pf kf ps ks : ℕ) → pf ≡ f → kf ≡ g → ordering_then (nat_cmp pf kf) (nat_cmp ps ks) ≡ Greater → nat_lt f g ≡ false
+low-is f g pf kf ps ks fs gs h = grind (arith, nat_tests)
 
 put-end : (s t h : Bool) → (s && t) || h ≡ (s && t) || (h && not (s && false))
 put-end true true h = refl
@@ -261,6 +264,59 @@ module _ (pairs : (p q : Pair) → Decides (is_same_pair p q) (p ≡ q)) (rows :
       paged = drop-ending is_page_of rows' pages pages' at-rows is.paged drop-page;
     }
 
+  -- ---- an entry in the place of that of its pair
+  module _ (p : Place) (new e : Entry) (there : row p ≡ Some e) (same : pair_of e ≡ pair_of new) where
+    same-place : IsPlaceOf pairs row p (pair_of new)
+    same-place = subst (λ (q : Pair). IsPlaceOf pairs row p q) same (place-of p e there)
+
+    same-feature : p.feature ≡ feature_number new.feature
+    same-feature = (is.numbered.own p e there).0 ∙ ap (λ (q : Pair). feature_number q.0) same
+
+    pub list-replaced : values_of (insert_entry place_cmp rows p new) ≡ put_entry new (values_of rows)
+    list-replaced =
+        insert-there place-total p (is_of (pair_of new)) (λ (x : Entry). nat_lt (feature_number new.feature) (feature_number x.feature)) new rows e is.ordered
+        (agrees p (pair_of new) same-place)
+        (all-rows place-total (λ (r : Place × Entry). place_cmp p r.0 ≡ Greater → nat_lt (feature_number new.feature) (feature_number r.1.feature) ≡ false) rows is.ordered
+        (λ k x h. λ g. low-is (feature_number new.feature) (feature_number x.feature) p.feature k.feature p.serial k.serial same-feature (is.numbered.own k x h).0 g))
+        there
+        ∙ sym (put-is new (values_of rows))
+
+    change-ending : (test : ℕ → Life → Bool) (rows' : PlacedEntries) (old ends : List Ending) → ((r : Place) → row_at rows' r ≡ cond (is_at (place_cmp p) r) (Some new) (row r))
+        → AreEndings test row old → ChangesEnd test e.life new.life p old ends → AreEndings test (λ r. row_at rows' r) ends
+    unfolding ChangesEnd
+    change-ending test rows' old ends at-rows ended h =
+        ended-changed test p (Some new) (Some e) row (λ r. row_at rows' r) old ends there at-rows (λ r h. place-exact p r h) ended (λ x. h x)
+
+    same-numbers : (r : Pair) → number r ≡ cond (is_same_pair (pair_of new) r) (Some p.serial) (number r)
+    same-numbers r = by_test (is_same_pair (pair_of new) r) refl
+      where
+        by_test : (b : Bool) → is_same_pair (pair_of new) r ≡ b → number r ≡ cond b (Some p.serial) (number r)
+        by_test true h = ap number (sym (same ∙ (pairs (pair_of new) r).0 h)) ∙ (is.numbered.own p e there).1
+        by_test false h = refl
+
+    pub rows-replaced : (rows' : PlacedEntries) (moments' pages' : List Ending) → IsStrictlySortedBy place_cmp (keys_of rows')
+        → ((r : Place) → row_at rows' r ≡ cond (is_at (place_cmp p) r) (Some new) (row r))
+        → ChangesEnd is_moment_of e.life new.life p moments moments' → ChangesEnd is_page_of e.life new.life p pages pages' → IsRows rows' serials moments' pages' next
+    rows-replaced rows' moments' pages' ordered at-rows change-moment change-page = record {
+      ordered = ordered;
+      numbered =
+          changed pairs row number next is.numbered p (pair_of new) (Some new) (λ r. row_at rows' r) number next
+          same-place same-feature (λ x h. cc) (omega arith) (is.numbered.own p e there).2 at-rows same-numbers;
+      timed = change-ending is_moment_of rows' moments moments' at-rows is.timed change-moment;
+      paged = change-ending is_page_of rows' pages pages' at-rows is.paged change-page;
+    }
+
+  pub rows-same : (moments' pages' : List Ending) → moments' ≡ moments → pages' ≡ pages → IsRows rows serials moments' pages' next
+  rows-same moments' pages' same-moments same-pages =
+      subst (λ (ends : List Ending). IsRows rows serials ends pages' next) (sym same-moments) (subst (λ (ends : List Ending). IsRows rows serials moments ends next) (sym same-pages) is)
+
+pub replaced-pair : (rows self : PlacedEntries) (p : Place) (q : Pair) (e : Entry) → rows ≡ self → HasRow self p q → row_at rows p ≡ Some e → pair_of e ≡ q
+replaced-pair rows self p q e same h there =
+    let row : row_at self p ≡ Some e = subst (λ (es : PlacedEntries). row_at es p ≡ Some e) same there in
+    let both : ◌≡◌ {A = Option Entry} (Some e) (Some h.entry) = sym row ∙ h.row in
+    let one : e ≡ h.entry = cc in
+    ap pair_of one ∙ h.of_pair
+
 -- ---- nothing changes
 
 pub rows-empty : (rows : PlacedEntries) (serials : List KeyNumbers) (moments pages : List Ending) → rows ≡ [] → IsStrictlySortedBy place_cmp (keys_of rows) → HoldsNone serials → moments ≡ [] → pages ≡ []
@@ -294,6 +350,10 @@ changed-to-none pairs q s new same none r = ap (λ (lists : List KeyNumbers). nu
 pub on-err : {T E P : Type 0} (r : Result T E) → P → OnErr r P
 on-err (Ok x) p = tt
 on-err (Err e) p = p
+
+pub on-ok : {T E P : Type 0} (r : Result T E) → P → OnOk r P
+on-ok (Ok x) p = p
+on-ok (Err e) p = tt
 
 pub if-none : {T P : Type 0} (r : Option T) → P → IfNone r P
 if-none None p = p

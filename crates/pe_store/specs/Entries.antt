@@ -3,8 +3,10 @@
 use Rattle.std.specs.Prelude.{◌≡◌, ℕ, Bool, not, nat_lt, List, [], ◌∷◌, length, filter, find, Option, None, if◌then◌else◌}
 use Rattle.std.specs.Option.{unwrap_or}
 use Rattle.pe_base.specs.declared.limits.TheConstants.{STORE_LIMIT}
+use Rattle.pe_base.specs.declared.state.State.{State}
 use Rattle.pe_features.specs.Features.{feature_number}
 use Rattle.pe_store.specs.declared.entry.Entry.{Entry}
+use Rattle.pe_store.specs.declared.key.Life.{Life}
 use Rattle.pe_store.specs.Numbers.{KeyNumbers, number_of}
 use Rattle.pe_store.specs.Pairs.{Pair, is_same_pair}
 
@@ -20,6 +22,10 @@ dismissals_of store pair = unwrap_or (number_of store.dismissals pair) 0
 -- the pair of an entry
 abbrev pub pair_of : Entry → Pair
 pair_of e = (e.feature, e.key)
+
+-- the entry that a setting of the pair makes
+abbrev pub stored : Pair → State → Life → Entry
+stored pair state life = record { feature = pair.0; key = pair.1; state = state; life = life }
 
 -- the entry is that of the pair
 abbrev pub is_of : Pair → Entry → Bool

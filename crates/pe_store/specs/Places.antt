@@ -1,5 +1,5 @@
 -- Places of entries in the order of the store, and what ends the entry at a place.
-use Rattle.std.specs.Prelude.{◌≡◌, ℕ, ◌<◌, ◌==◌, Bool, false, ◌&&◌, ◌||◌, not, List, Option, None, Some}
+use Rattle.std.specs.Prelude.{◌≡◌, ℕ, ◌<◌, ◌==◌, Bool, true, false, ◌&&◌, ◌||◌, not, List, Option, None, Some}
 use Rattle.std.specs.List.{list_any}
 use Rattle.std.specs.List.Sorted.{IsStrictlySortedBy}
 use Rattle.std.specs.Map.{lookup, keys_of, values_of}
@@ -43,6 +43,13 @@ abbrev pub is_page_of : ℕ → Life → Bool
 is_page_of document (life.Page page) = document == page
 is_page_of document _ = false
 
+-- the two lives are one
+abbrev pub same_life : Life → Life → Bool
+same_life life.Forever life.Forever = true
+same_life (life.Until a) (life.Until b) = a == b
+same_life (life.Page a) (life.Page b) = a == b
+same_life _ _ = false
+
 -- there is an entry with a life of which the test holds
 abbrev pub has_life : (ℕ → Life → Bool) → ℕ → Option Entry → Bool
 has_life test by None = false
@@ -63,6 +70,11 @@ PutsEnd test life place old new = (x : Ending) → has_ending new x ≡ ((is_sam
 -- the ending by this test of an entry with this life at the place is forgotten
 unfoldable pub DropsEnd : (ℕ → Life → Bool) → Life → Place → List Ending → List Ending → Type 0
 DropsEnd test life place old new = (x : Ending) → has_ending new x ≡ (has_ending old x && not (is_same_place place x.place && test x.by life))
+
+-- the ending by this test of an entry at the place with the one life is forgotten, and that with the other put down
+unfoldable pub ChangesEnd : (ℕ → Life → Bool) → Life → Life → Place → List Ending → List Ending → Type 0
+ChangesEnd test was life place old new =
+    (x : Ending) → has_ending new x ≡ ((is_same_place place x.place && test x.by life) || (has_ending old x && not (is_same_place place x.place && test x.by was)))
 
 -- the endings are those of the entries by this test
 unfoldable pub AreEndings : (ℕ → Life → Bool) → (Place → Option Entry) → List Ending → Type 0

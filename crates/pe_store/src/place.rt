@@ -1,6 +1,6 @@
 //! Places of entries, and what ends them.
 ghost use Rattle.std.specs.Prelude.{◌≡◌, [], OnOk, OnErr};
-ghost use Rattle.pe_store.specs.Places.{PutsOne, DropsOne, PutsEnd, DropsEnd, is_moment_of, is_page_of};
+ghost use Rattle.pe_store.specs.Places.{PutsOne, DropsOne, PutsEnd, DropsEnd, is_moment_of, is_page_of, same_life};
 
 use crate::key::Life;
 use std::alloc::{AllocError, Global};
@@ -86,5 +86,28 @@ pub(crate) fn drop_end(endings: &mut Endings, life: Life, place: Place)
         Life::Forever => {}
         Life::Until(moment) => drop_one(&mut endings.moments, moment, place),
         Life::Page(page) => drop_one(&mut endings.pages, page.get() as u64, place),
+    }
+}
+
+// Whether the two lives are one.
+pub(crate) fn ends_alike(old: Life, new: Life) -> bool
+    ensures { result ≡ same_life old new }
+{
+    match old {
+        Life::Forever => match new {
+            Life::Forever => true,
+            Life::Until(_) => false,
+            Life::Page(_) => false,
+        },
+        Life::Until(moment) => match new {
+            Life::Forever => false,
+            Life::Until(other) => moment == other,
+            Life::Page(_) => false,
+        },
+        Life::Page(page) => match new {
+            Life::Forever => false,
+            Life::Until(_) => false,
+            Life::Page(other) => page.get() == other.get(),
+        },
     }
 }

@@ -6,14 +6,15 @@ ghost use Rattle.std.specs.Map.{keys_of, values_of};
 ghost use Rattle.std.specs.Option.{option_copied};
 ghost use Rattle.pe_store.specs.Entries.{pair_of, entry_of, put_entry, without};
 ghost use Rattle.pe_store.specs.Numbers.{number_of, IsChangedFor};
+ghost use Rattle.pe_store.specs.declared.entry.Entry.{Entry};
 ghost use Rattle.pe_store.specs.declared.place.Place.{Place};
-ghost use Rattle.pe_store.specs.Places.{row_at, place_cmp, HasRow, is_moment_of, is_page_of, PutsEnd, DropsEnd};
+ghost use Rattle.pe_store.specs.Places.{row_at, place_cmp, HasRow, is_moment_of, is_page_of, PutsEnd, DropsEnd, ChangesEnd};
 
 use crate::entry::Entry;
 use crate::key::Key;
 use crate::law::same_pairs_are_one;
 use crate::numbers::PairNumbers;
-use crate::place::{Endings, Place, drop_end, put_end};
+use crate::place::{Endings, Place, drop_end, ends_alike, put_end};
 use pe_features::Feature;
 use std::alloc::{AllocError, Global};
 use std::collections::BTreeMap;
@@ -81,6 +82,25 @@ fn forget_all(serials: &mut PairNumbers, endings: &mut Endings, entry: Entry, pl
     forget(serials, endings, &entry, place);
 }
 
+// Notes down what ends the entry at a place in the place of what ended the one before it.
+fn change_end(
+    endings: &mut Endings,
+    old: &Entry,
+    entry: &Entry,
+    place: Place,
+) -> Result<(), AllocError>
+    ensures moments { OnOk result (ChangesEnd is_moment_of old.now.life entry.now.life place endings.old.moments.keys endings.new.moments.keys) }
+    ensures pages { OnOk result (ChangesEnd is_page_of old.now.life entry.now.life place endings.old.pages.keys endings.new.pages.keys) }
+    ensures moments_kept { OnErr result (endings.new.moments.keys ≡ endings.old.moments.keys) }
+    ensures pages_kept { OnErr result (endings.new.pages.keys ≡ endings.old.pages.keys) }
+{
+    put_end(endings, entry.life, place)?;
+    if !ends_alike(old.life, entry.life) {
+        drop_end(endings, old.life, place);
+    }
+    Ok(())
+}
+
 // Lets an entry go that stood at the place.
 fn let_go(_entry: Option<Entry>) {}
 
@@ -89,6 +109,8 @@ fn put_row(map: &mut BTreeMap<Place, Entry>, place: Place, entry: Entry) -> Resu
     ensures entries { OnOk result (map.new.entries ≡ insert_entry place_cmp map.old.entries place entry) }
     ensures rows { OnOk result ((r : Place) → row_at map.new.entries r ≡ if is_at (place_cmp place) r then Some entry else row_at map.old.entries r) }
     ensures len { OnOk result (row_at map.old.entries place ≡ None → length map.new.entries ≡ length map.old.entries + 1) }
+    ensures len_there { OnOk result ((e : Entry) → row_at map.old.entries place ≡ Some e → length map.new.entries ≡ length map.old.entries) }
+    ensures absent { OnErr result (row_at map.old.entries place ≡ None) }
     ensures given_back { IfErr result (λ e. e ≡ entry) }
     ensures kept { OnErr result (map.new.entries ≡ map.old.entries) }
     ensures ordered { IsStrictlySortedBy place_cmp (keys_of map.new.entries) }
@@ -178,6 +200,27 @@ impl Rows {
             }
             Err(entry) => {
                 forget_all(&mut self.serials, &mut self.endings, entry, place);
+                Err(AllocError)
+            }
+        }
+    }
+
+    // Puts an entry in the place of that of its pair.
+    pub(crate) fn replace(&mut self, place: Place, entry: Entry) -> Result<(), AllocError>
+        requires there { HasRow self.old place (pair_of entry) }
+        ensures list { OnOk result (values_of self.new ≡ put_entry entry (values_of self.old)) }
+        ensures len { OnOk result (length self.new ≡ length self.old) }
+        ensures err { OnErr result (self.new ≡ self.old) }
+    {
+        same_pairs_are_one();
+        let Some(old) = self.map.get(&place) else {
+            return Err(AllocError);
+        };
+        change_end(&mut self.endings, old, &entry, place)?;
+        match put_row(&mut self.map, place, entry) {
+            Ok(()) => Ok(()),
+            Err(entry) => {
+                let_go(Some(entry));
                 Err(AllocError)
             }
         }

@@ -1,18 +1,18 @@
 //! The permission store.
-ghost use Rattle.std.specs.Prelude.{◌≡◌, ◌+◌, ◌<◌, ◌≤◌, [], None, IsTrue, is_some, length, if◌then◌else◌};
+ghost use Rattle.std.specs.Prelude.{◌≡◌, ◌↔◌, ◌+◌, ◌<◌, ◌≤◌, [], None, Some, Err, IfOk, IsTrue, OnOk, OnErr, is_some, length, if◌then◌else◌};
 ghost use Rattle.std.specs.Option.{option_copied};
 ghost use Rattle.pe_base.specs.declared.limits.TheConstants.{STORE_LIMIT};
-ghost use Rattle.pe_store.specs.Entries.{dismissals_of, entry_of, without};
+ghost use Rattle.pe_store.specs.Entries.{dismissals_of, entry_of, put_entry, stored, without, IsFull};
 ghost use Rattle.pe_store.specs.Pairs.{Pair, is_same_pair};
 
-use crate::entry::Entry;
-use crate::key::Key;
+use crate::entry::{Entry, StoreFault};
+use crate::key::{Key, Life};
 use crate::law::same_pairs_are_one;
 use crate::numbers::PairNumbers;
 use crate::rows::Rows;
-use pe_base::Steps;
+use pe_base::{STORE_LIMIT, State, Steps};
 use pe_features::Feature;
-use std::alloc::Global;
+use std::alloc::{AllocError, Global};
 use std::marker::Model;
 use std::sync::ledger::Ledger;
 
@@ -20,7 +20,7 @@ use std::sync::ledger::Ledger;
 /// pair of a feature and a key, and how often each pair was dismissed since its last setting.
 /// The entries are ordered by the features' numbers; within a feature a new entry comes last, and a setting of a pair
 /// that is there keeps its place.
-/// Looking up and clearing cost a logarithm of the entries.
+/// Looking up, setting and clearing cost a logarithm of the entries.
 #[derive(Drop)]
 pub struct Store {
     rows: Rows,
@@ -74,6 +74,58 @@ impl Store {
         self.rows.get(feature, key)
     }
 
+    /// How often a pair was dismissed since its last setting, or ever where it has had none.
+    pub fn dismissals(&self, feature: Feature, key: &Key) -> u64
+        ensures { result ≡ dismissals_of self.now (feature, key.now) }
+    {
+        self.dismissals.number(feature, key).unwrap_or(0)
+    }
+
+    /// Sets what is stored for a pair: in the place of its entry where it has one, else behind the entries of its
+    /// feature. How often the pair was dismissed is counted anew from here on.
+    /// `Full` where there are as many entries as there may be and none of the pair; `Memory` where memory wants. All is
+    /// then as before.
+    pub fn set(
+        &mut self,
+        feature: Feature,
+        key: Key,
+        state: State,
+        life: Life,
+    ) -> Result<(), StoreFault>
+        ensures list { OnOk result (self.new.entries ≡ put_entry (stored (feature, key) state life) self.old.entries) }
+        ensures found { OnOk result ((pair : Pair) → entry_of self.new.entries pair ≡ if is_same_pair (feature, key) pair then Some (stored (feature, key) state life) else entry_of self.old.entries pair) }
+        ensures dismissals { OnOk result ((pair : Pair) → dismissals_of self.new pair ≡ if is_same_pair (feature, key) pair then 0 else dismissals_of self.old pair) }
+        ensures full { (result ≡ Err StoreFault.Full) ↔ IsFull self.old.entries (feature, key) }
+        ensures err { OnErr result (self.new ≡ self.old) }
+    {
+        same_pairs_are_one();
+        match self.rows.place_of(feature, &key) {
+            Some(place) => {
+                let Ok(entry) = new_entry(feature, &key, state, life) else {
+                    return Err(StoreFault::Memory);
+                };
+                if self.rows.replace(place, entry).is_err() {
+                    return Err(StoreFault::Memory);
+                }
+                self.dismissals.remove(feature, &key);
+                Ok(())
+            }
+            None => {
+                if self.rows.len() == STORE_LIMIT {
+                    return Err(StoreFault::Full);
+                }
+                let Ok(entry) = new_entry(feature, &key, state, life) else {
+                    return Err(StoreFault::Memory);
+                };
+                if self.rows.insert(entry).is_err() {
+                    return Err(StoreFault::Memory);
+                }
+                self.dismissals.remove(feature, &key);
+                Ok(())
+            }
+        }
+    }
+
     /// Takes the entry of a pair out, and says whether there was one. The other entries keep their order.
     pub fn clear(&mut self, feature: Feature, key: &Key) -> bool
         ensures list { self.new.entries ≡ without (feature, key.now) self.old.entries }
@@ -88,6 +140,19 @@ impl Store {
             None => false,
         }
     }
+}
+
+// The entry that a setting of a pair makes.
+fn new_entry(feature: Feature, key: &Key, state: State, life: Life) -> Result<Entry, AllocError>
+    ensures { IfOk result (λ e. e ≡ stored (feature, key.now) state life) }
+{
+    let key = key.copy()?;
+    Ok(Entry {
+        feature,
+        key,
+        state,
+        life,
+    })
 }
 
 // Whether there is an entry, which is let go.
