@@ -1,17 +1,15 @@
 -- An engine that stands for a history stands for it with one more event.
-use Rattle.std.proofs.Common.{◌≡◌, ℕ, Bool, true, false, List, [], ◌∷◌, ◌++◌, length, Option, Some, None, IsTrue, is_none, filter, refl, sym, ◌∙◌, ap, subst}
+use Rattle.std.proofs.Common.{◌≡◌, ℕ, false, [], ◌∷◌, ◌++◌, None, IsTrue, filter, refl, sym, ◌∙◌, ap, subst}
 use Rattle.pe_frames.specs.Forest.{Forest}
 use Rattle.pe_events.specs.declared.answer.Answer.{Answer}
 use Rattle.pe_events.specs.declared.event.Event.{Event}
 use Rattle.pe_events.specs.Timed.{Timed}
-use Rattle.pe_store.specs.Pairs.{Pair}
-use Rattle.pe_rules.specs.History.{StepAnswer, Step, RepliedHistory, History, clock}
+use Rattle.pe_rules.specs.History.{StepAnswer, Step, RepliedHistory, History}
 use Rattle.pe_rules.specs.Current.{is_current}
 use Rattle.pe_rules.specs.Causes.{cause_of}
 use Rattle.pe_rules.specs.Replies.{answer_of, replied, step_answer, is_regular, accepts, accepts_in}
 use Rattle.pe_laws.specs.HistoryLaws.{HistoryLaws}
 use Rattle.pe_laws.specs.Effects.{effects}
-use Rattle.pe_laws.specs.EffectsLaws.{effects_of}
 use Rattle.pe_engine.specs.declared.row.Row.{Row}
 use Rattle.pe_engine.specs.declared.engine.Made.{Made}
 use Rattle.pe_engine.specs.declared.engine.Made.TheVariants as made

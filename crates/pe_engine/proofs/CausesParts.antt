@@ -1,5 +1,5 @@
 -- The first cause is that of the first part that has one.
-use Rattle.std.proofs.Common.{◌≡◌, ℕ, Bool, true, false, not, ◌||◌, nat_le, nat_lt, length, Option, Some, None, refl, sym, ◌∙◌, ap}
+use Rattle.std.proofs.Common.{◌≡◌, ℕ, Bool, true, false, not, ◌||◌, nat_le, nat_lt, length, Option, Some, None, refl, ◌∙◌, ap}
 use Rattle.std.specs.Option.{option_or}
 use Rattle.pe_base.specs.declared.limits.TheConstants.{EVENT_LIMIT}
 use Rattle.pe_events.specs.declared.cause.Cause.{Cause}
@@ -7,10 +7,10 @@ use Rattle.pe_events.specs.declared.cause.Cause.TheVariants as cause
 use Rattle.pe_events.specs.declared.event.Event.{Event}
 use Rattle.pe_events.specs.declared.event.Event.TheVariants as event
 use Rattle.pe_rules.specs.History.{RepliedHistory, some_if, clock}
-use Rattle.pe_rules.specs.Causes.{first_some, cause_of, names_unknown, names_settled, names_closed, names_not_shown, has_bad_url, has_bad_feature, has_bad_call, has_bad_capability, names_other_page, exceeds_pages, exceeds_depth, exceeds_frames, exceeds_statuses, exceeds_pending, exceeds_store}
+use Rattle.pe_rules.specs.Causes.{cause_of, names_unknown, names_settled, names_closed, names_not_shown}
 use Rattle.pe_rules.specs.Numbering.{is_frame}
 use Rattle.pe_rules.specs.Current.{is_live}
-use Rattle.pe_engine.specs.Causes.{first_cause, time_cause, named_cause, other_cause, frame_named, names_nothing}
+use Rattle.pe_engine.specs.Causes.{time_cause, named_cause, other_cause, frame_named, names_nothing}
 
 -- two tests before others
 two : (a b : Bool) (x y : Cause) (rest : Option Cause) → option_or (some_if a x) (option_or (some_if b y) rest) ≡ option_or (option_or (some_if a x) (option_or (some_if b y) None)) rest

@@ -1,5 +1,5 @@
 -- The causes that every verb has, by what the engine keeps.
-use Rattle.std.proofs.Common.{◌≡◌, ℕ, ◌<◌, ◌≤◌, Bool, true, false, length, Option, Some, None, IsTrue, is_some, option_map, refl, sym, ◌∙◌, ap, subst, arith, true≢false}
+use Rattle.std.proofs.Common.{◌≡◌, ℕ, ◌<◌, ◌≤◌, true, false, length, Option, Some, None, is_some, option_map, refl, sym, ◌∙◌, ap, subst, arith, true≢false}
 use Rattle.std.specs.Prelude.{IsSome}
 use Rattle.std.proofs.lemmas.Bool.Decides.{nat_tests}
 use Rattle.pe_arena.specs.declared.handle.Handle.{Handle}
@@ -7,14 +7,13 @@ use Rattle.pe_frames.specs.declared.node.Node.{Node}
 use Rattle.pe_frames.specs.Forest.{Entry, entry_of, node_in, node_of}
 use Rattle.pe_events.specs.declared.cause.Cause.TheVariants as cause
 use Rattle.pe_events.specs.declared.event.Event.{Event}
-use Rattle.pe_rules.specs.History.{RepliedHistory, History}
+use Rattle.pe_rules.specs.History.{History}
 use Rattle.pe_rules.specs.Current.{is_live, document_in}
 use Rattle.pe_rules.specs.Replies.{replied}
 use Rattle.pe_laws.specs.HistoryLaws.{HistoryLaws}
 use Rattle.pe_engine.specs.declared.row.Row.{Row}
 use Rattle.pe_engine.specs.Objects.{handle_at}
 use Rattle.pe_engine.specs.Rows.{IsRow, IsShown}
-use Rattle.pe_engine.specs.Tree.{IsNode}
 use Rattle.pe_engine.specs.Causes.{time_cause, named_cause, frame_named}
 use Rattle.pe_engine.specs.StandsFor.{EngineValue, StandsFor}
 use Rattle.pe_engine.proofs.CausesParts.{limit-events, time-back, in-time, frame-unknown, frame-closed, frame-live}

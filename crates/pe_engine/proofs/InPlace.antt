@@ -1,5 +1,5 @@
 -- Documents that events change in their places: what a history action and an attribute leave.
-use Rattle.std.proofs.Common.{◌≡◌, ◌≢◌, ℕ, suc, ◌≤◌, Bool, true, false, ◌&&◌, ◌==◌, List, [], ◌∷◌, ◌++◌, map, length, Option, Some, None, is_some, unwrap_or, option_map, refl, sym, ◌∙◌, ap, subst, arith, cond, true≢false, if◌then◌else◌}
+use Rattle.std.proofs.Common.{◌≡◌, ℕ, suc, ◌≤◌, Bool, true, false, ◌&&◌, ◌==◌, List, [], ◌∷◌, ◌++◌, map, length, Option, Some, None, is_some, unwrap_or, refl, sym, ◌∙◌, ap, subst, arith, cond, if◌then◌else◌}
 use Rattle.std.proofs.lemmas.Bool.Decides.{Decides-eqb, nat_tests}
 use Rattle.pe_arena.specs.declared.handle.Handle.{Handle}
 use Rattle.pe_frames.specs.Forest.{Entry, Forest, same_handle, entry_of, top_of, with_document}
@@ -14,21 +14,20 @@ use Rattle.pe_rules.specs.History.{StepAnswer, Replied, Step, RepliedHistory, so
 use Rattle.pe_rules.specs.Attributes.{is_same_name, attribute_by, attribute, attributes_of}
 use Rattle.pe_rules.specs.Embedders.{page, page_of_frame}
 use Rattle.pe_rules.specs.Current.{is_current, document_in}
-use Rattle.pe_rules.specs.Activation.{is_frame_of_page, stamp_of}
+use Rattle.pe_rules.specs.Activation.{stamp_of}
 use Rattle.pe_rules.specs.HistoryActivation.{consumes_history, second_stamp_of}
 use Rattle.pe_laws.specs.HistoryLaws.{HistoryLaws}
-use Rattle.pe_engine.specs.declared.attribute.Attribute.{Attribute}
 use Rattle.pe_engine.specs.declared.row.Row.{Row}
 use Rattle.pe_engine.specs.declared.engine.Made.{Made}
 use Rattle.pe_engine.specs.declared.engine.Made.TheVariants as made
 use Rattle.pe_engine.specs.Objects.{handle_at}
 use Rattle.pe_engine.specs.Rows.{IsRow, IsSettled, kept_attributes}
-use Rattle.pe_engine.specs.Tree.{Each, IsNode, IsTree}
+use Rattle.pe_engine.specs.Tree.{IsNode, IsTree}
 use Rattle.pe_engine.specs.Changing.{with_attribute}
 use Rattle.pe_engine.specs.Giving.{attribute_given}
 use Rattle.pe_engine.specs.Replying.{timed}
 use Rattle.pe_engine.proofs.Accepted.{step_of}
-use Rattle.pe_engine.proofs.Handles.{same_handle-Decides, same-frame}
+use Rattle.pe_engine.proofs.Handles.{same-frame}
 use Rattle.pe_engine.proofs.Kept.{kept-in-place, document-within, row-stays, settled-stays}
 use Rattle.pe_engine.proofs.Look.{node-at, page-at, page-of}
 

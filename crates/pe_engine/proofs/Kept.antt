@@ -1,13 +1,12 @@
 -- A tree that stands for the steps stands for them with one more.
-use Rattle.std.proofs.Common.{◌≡◌, ◌≢◌, ℕ, zero, suc, ◌+◌, ◌<◌, ◌≤◌, Bool, true, false, not, ◌&&◌, ◌||◌, ◌==◌, List, [], ◌∷◌, ◌++◌, map, length, Option, Some, None, IsTrue, is_some, option_map, option_and_then, refl, sym, ◌∙◌, ap, subst, arith, cond, true≢false, length-append}
-use Rattle.std.specs.Prelude.{slice_get, slice_index_or, filter, option_to_list}
+use Rattle.std.proofs.Common.{◌≡◌, ◌≢◌, ℕ, suc, ◌<◌, ◌≤◌, Bool, true, false, not, ◌||◌, ◌==◌, List, [], ◌∷◌, ◌++◌, map, length, Option, Some, None, is_some, option_and_then, refl, sym, ◌∙◌, ap, subst, arith, cond, true≢false, length-append}
+use Rattle.std.specs.Prelude.{slice_index_or, filter}
 use Rattle.std.specs.List.{list_any}
 use Rattle.std.proofs.lemmas.Option.{slice_get_past}
 use Rattle.std.proofs.lemmas.Bool.Decides.{Decides-eqb, nat_tests}
 use Rattle.pe_arena.specs.declared.handle.Handle.{Handle}
-use Rattle.pe_frames.specs.Forest.{Entry, Forest, path, has_handle, same_handle, is_under, with_document, mark_of, Gives, opened}
+use Rattle.pe_frames.specs.Forest.{Entry, Forest, path, same_handle, is_under, with_document, mark_of, Gives, opened}
 use Rattle.pe_frames.specs.Order.{closed, navigated}
-use Rattle.pe_events.specs.declared.event.Event.{Event}
 use Rattle.pe_events.specs.declared.event.Event.TheVariants as event
 use Rattle.pe_rules.specs.History.{Step, RepliedHistory, some_if}
 use Rattle.pe_rules.specs.Numbering.{is_frame, makes_frame, document_frame, frames_made}
@@ -21,10 +20,10 @@ use Rattle.pe_engine.specs.declared.row.Row.{Row}
 use Rattle.pe_engine.specs.declared.engine.Made.{Made}
 use Rattle.pe_engine.specs.declared.engine.Made.TheVariants as made
 use Rattle.pe_engine.specs.Objects.{handle_in, handle_at, Apart}
-use Rattle.pe_engine.specs.Rows.{IsRow, IsSettled, HasPolicy, kept_attributes}
+use Rattle.pe_engine.specs.Rows.{IsRow, IsSettled, kept_attributes}
 use Rattle.pe_engine.specs.Tree.{Each, IsNode, IsTree}
 use Rattle.pe_engine.proofs.Lists.{each-kept, each-map, each-all, filter-within, filter-same, map-filter, filter-all, map-left, each-listed}
-use Rattle.pe_engine.proofs.Handles.{Grows, grows, path-grows, has-agrees, handle-last, handle-beside, handle-nothing, same_self, same-frame}
+use Rattle.pe_engine.proofs.Handles.{Grows, grows, path-grows, has-agrees, handle-last, handle-beside, handle-nothing, same-frame}
 
 flip : (b : Bool) → not b ≡ true → b ≡ false
 flip true h = sym h

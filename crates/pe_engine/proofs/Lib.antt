@@ -13,3 +13,5 @@ pub mod VerbAnswers
 pub mod InPlace
 pub mod Opened
 pub mod NoChanges
+pub mod Embedded
+pub mod Navigated

@@ -1,13 +1,12 @@
 -- What the tree answers is what the history says.
-use Rattle.std.proofs.Common.{◌≡◌, ◌≢◌, ℕ, zero, suc, ◌+◌, ◌<◌, ◌≤◌, Bool, true, false, not, ◌&&◌, ◌||◌, ◌==◌, List, [], ◌∷◌, ◌++◌, map, length, Option, Some, None, IsTrue, is_some, is_none, unwrap_or, option_map, option_and_then, refl, sym, ◌∙◌, ap, subst, arith, cond, true≢false, length-append}
-use Rattle.std.specs.Prelude.{slice_get, filter}
+use Rattle.std.proofs.Common.{◌≡◌, ℕ, suc, ◌+◌, Bool, true, false, ◌||◌, ◌==◌, List, [], ◌∷◌, ◌++◌, map, length, Option, Some, None, IsTrue, is_some, is_none, unwrap_or, option_map, option_and_then, refl, sym, ◌∙◌, ap, subst, arith, cond, true≢false, length-append}
+use Rattle.std.specs.Prelude.{filter}
 use Rattle.std.specs.List.{list_any}
 use Rattle.std.proofs.lemmas.List.{length-map}
 use Rattle.std.proofs.lemmas.Bool.Decides.{Decides-eqb, nat_tests}
 use Rattle.pe_arena.specs.declared.handle.Handle.{Handle}
-use Rattle.pe_frames.specs.declared.node.Node.{Node}
-use Rattle.pe_frames.specs.Forest.{Entry, Forest, path, has_handle, same_handle, entry_of, top_of, first_of, last_of, is_top, page_size, page_count, parent_of, depth_of, node_in, node_of}
-use Rattle.pe_rules.specs.History.{Step, RepliedHistory, some_if}
+use Rattle.pe_frames.specs.Forest.{Entry, Forest, path, same_handle, entry_of, top_of, first_of, last_of, is_top, page_size, page_count, parent_of, depth_of}
+use Rattle.pe_rules.specs.History.{RepliedHistory, some_if}
 use Rattle.pe_rules.specs.Numbering.{is_frame, frames_made, parent_frame, last_document}
 use Rattle.pe_rules.specs.Making.{frame_of}
 use Rattle.pe_rules.specs.Embedders.{chain, first_or, top_document, page, page_of_frame, depth}
@@ -17,7 +16,7 @@ use Rattle.pe_laws.specs.HistoryLaws.{HistoryLaws}
 use Rattle.pe_laws.specs.TreeLaws as laws
 use Rattle.pe_engine.specs.declared.row.Row.{Row}
 use Rattle.pe_engine.specs.declared.engine.Made.{Made}
-use Rattle.pe_engine.specs.Objects.{handle_in, handle_at, Apart}
+use Rattle.pe_engine.specs.Objects.{handle_at}
 use Rattle.pe_engine.specs.Tree.{Each, IsNode, IsTree}
 use Rattle.pe_engine.proofs.Lists.{each-all, map-filter, filter-and, any-filter}
 use Rattle.pe_engine.proofs.Handles.{same_handle-Decides, same-frame, same_length}
@@ -45,7 +44,7 @@ listed T ms (x ∷ es) f h is nodes z = by_test (x.frame == f) refl (same_handle
     by_test false q false r older y = older y
 
 -- the steps whose last documents are looked at
-last-of : (T : RepliedHistory) (f d : ℕ) → document_in T f ≡ Some d → last_document T f ≡ Some d
+pub last-of : (T : RepliedHistory) (f d : ℕ) → document_in T f ≡ Some d → last_document T f ≡ Some d
 unfolding document_in
 last-of T f d h = by_last (last_document T f) h
   where

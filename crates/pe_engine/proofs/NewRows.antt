@@ -1,5 +1,5 @@
 -- The row of a new document says of it what the definitions say.
-use Rattle.std.proofs.Common.{◌≡◌, ◌≢◌, ℕ, suc, ◌+◌, ◌≤◌, Bool, true, false, ◌||◌, List, [], ◌∷◌, ◌++◌, length, map, Option, Some, None, unwrap_or, option_map, option_and_then, refl, sym, ◌∙◌, ap, subst, arith, if◌then◌else◌}
+use Rattle.std.proofs.Common.{◌≡◌, ◌≢◌, ℕ, suc, ◌≤◌, Bool, true, false, ◌||◌, List, [], ◌∷◌, ◌++◌, length, map, Option, Some, None, unwrap_or, option_map, refl, sym, ◌∙◌, ap, subst, arith, if◌then◌else◌}
 use Rattle.std.proofs.lemmas.List.{map-append}
 use Rattle.pe_features.specs.declared.feature.Feature.{Feature}
 use Rattle.pe_origin.specs.declared.origin.Origin.{Origin}
@@ -7,20 +7,19 @@ use Rattle.pe_origin.specs.declared.place.Place.{Place}
 use Rattle.pe_allowlist.specs.Lists.{lists_of}
 use Rattle.pe_allowlist.specs.ContainerPolicy.{container_policy}
 use Rattle.pe_allowlist.specs.declared.allowlist.Allowlist.{Allowlist}
-use Rattle.pe_allowlist.specs.declared.container.DeclaredOrigin.{DeclaredOrigin}
 use Rattle.pe_header.specs.DeclaredPolicy.{declared_policy}
 use Rattle.pe_policy.specs.Links.{ChainDocument, end_of_chain}
-use Rattle.pe_policy.specs.PolicyValue.{PolicyValue, IsPolicyOf, IsDocument}
+use Rattle.pe_policy.specs.PolicyValue.{IsDocument}
 use Rattle.pe_rules.specs.History.{Step, RepliedHistory}
 use Rattle.pe_rules.specs.Attributes as rules
-use Rattle.pe_rules.specs.Making.{Making, making_by, making}
+use Rattle.pe_rules.specs.Making.{Making, making_by}
 use Rattle.pe_rules.specs.Embedders.{chain}
 use Rattle.pe_rules.specs.Origins.{origin_of, sandbox_flag, origin_of_place, place_or_none, is_blank_kind, declared_origin}
 use Rattle.pe_rules.specs.Denials.{declared_policy_in, container_in, container_policy_in, chain_document, chain_documents}
 use Rattle.pe_laws.specs.HistoryLaws.{HistoryLaws}
 use Rattle.pe_engine.specs.declared.row.Attributes.{Attributes}
 use Rattle.pe_engine.specs.declared.row.Row.{Row}
-use Rattle.pe_engine.specs.Rows.{IsSettled, HasPolicy, kept_attributes}
+use Rattle.pe_engine.specs.Rows.{IsSettled, kept_attributes}
 use Rattle.pe_engine.specs.Making.{child_origin, kept_declared, IsLinkOf, IsContainedBy, IsTopRow, IsChildRow}
 
 -- a link with this header has the declared policy that is read from it

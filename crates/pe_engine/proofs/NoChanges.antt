@@ -1,15 +1,13 @@
 -- Replies without changes.
-use Rattle.std.proofs.Common.{◌≡◌, ℕ, List, [], ◌∷◌, ◌++◌, Option, Some, None, refl, sym, ◌∙◌, ap, subst}
-use Rattle.std.specs.Prelude.{filter, option_to_list}
+use Rattle.std.proofs.Common.{◌≡◌, ℕ, List, [], ◌∷◌, refl, sym, ◌∙◌, subst}
 use Rattle.std.specs.List.{flat_map}
 use Rattle.pe_events.specs.declared.answer.Answer.{Answer}
 use Rattle.pe_events.specs.declared.answer.Answer.TheVariants as answer
 use Rattle.pe_events.specs.declared.cause.Cause.{Cause}
-use Rattle.pe_events.specs.declared.answer.Change.{Change}
 use Rattle.pe_events.specs.Timed.{Timed}
-use Rattle.pe_rules.specs.History.{RepliedHistory, History, clock}
+use Rattle.pe_rules.specs.History.{RepliedHistory, History}
 use Rattle.pe_rules.specs.Statuses.{live_statuses}
-use Rattle.pe_rules.specs.Changes.{numbers_above, changes_at, change_at, changes_before, is_live_in, change_between, changes_after}
+use Rattle.pe_rules.specs.Changes.{changes_at, changes_before, changes_after}
 use Rattle.pe_engine.specs.declared.replies.Replies.{Replies}
 use Rattle.pe_engine.specs.Replying.{steps_of, IsAcceptance, IsRefusal}
 use Rattle.pe_engine.specs.StandsFor.{EngineValue}

@@ -1,7 +1,5 @@
 -- A page that is opened.
-use Rattle.std.proofs.Common.{◌≡◌, ◌≢◌, ℕ, suc, ◌+◌, ◌<◌, ◌≤◌, Bool, true, false, List, [], ◌∷◌, ◌++◌, map, length, Option, Some, None, IsTrue, is_some, unwrap_or, option_map, refl, sym, ◌∙◌, ap, subst, arith}
-use Rattle.pe_arena.specs.declared.handle.Handle.{Handle}
-use Rattle.pe_base.specs.declared.input.Stamp.TheVariants as stamp
+use Rattle.std.proofs.Common.{◌≡◌, ℕ, suc, ◌+◌, false, List, [], ◌∷◌, ◌++◌, map, length, Option, Some, None, unwrap_or, refl, sym, ◌∙◌, ap, arith}
 use Rattle.pe_frames.specs.Forest.{Entry}
 use Rattle.pe_origin.specs.declared.place.Place.{Place}
 use Rattle.pe_origin.specs.Places.{place_at}
@@ -12,7 +10,6 @@ use Rattle.pe_events.specs.declared.event.Event.TheVariants as event
 use Rattle.pe_rules.specs.History.{StepAnswer, Replied, Step, RepliedHistory, History}
 use Rattle.pe_rules.specs.Attributes.{no_attributes, attribute, attributes_of}
 use Rattle.pe_rules.specs.Making.{Making, making_by, frame_of}
-use Rattle.pe_rules.specs.Embedders.{chain}
 use Rattle.pe_rules.specs.Current.{frames_above}
 use Rattle.pe_rules.specs.Origins.{origin_of, place_or_none, no_place}
 use Rattle.pe_rules.specs.Activation.{stamp_of}
@@ -21,12 +18,11 @@ use Rattle.pe_rules.specs.Causes.{cause_of}
 use Rattle.pe_rules.specs.Replies.{answer_of, new_origin, replied}
 use Rattle.pe_laws.specs.HistoryLaws.{HistoryLaws}
 use Rattle.pe_engine.specs.declared.row.Row.{Row}
-use Rattle.pe_engine.specs.declared.engine.Made.{Made}
 use Rattle.pe_engine.specs.declared.engine.Made.TheVariants as made
 use Rattle.pe_engine.specs.Objects.{handle_at}
-use Rattle.pe_engine.specs.Rows.{IsRow, IsSettled, kept_attributes, no_kept_attributes}
+use Rattle.pe_engine.specs.Rows.{IsRow, IsSettled, kept_attributes}
 use Rattle.pe_engine.specs.Making.{IsTopRow}
-use Rattle.pe_engine.specs.Tree.{IsNode, IsTree}
+use Rattle.pe_engine.specs.Tree.{IsNode}
 use Rattle.pe_engine.specs.Changing.{HasOpened}
 use Rattle.pe_engine.specs.StandsFor.{EngineValue, StandsFor}
 use Rattle.pe_engine.specs.Replying.{timed, IsAcceptance}

@@ -1,12 +1,11 @@
 -- A new engine stands for no events.
-use Rattle.std.proofs.Common.{◌≡◌, ◌<◌, ℕ, zero, suc, false, List, [], Option, Some, None, refl}
+use Rattle.std.proofs.Common.{◌≡◌, ℕ, zero, suc, false, [], Option, Some, None, refl}
 use Rattle.pe_arena.specs.declared.handle.Handle.{Handle}
 use Rattle.pe_rules.specs.History.{clock, newest_answer, all_answers, answers_newest_first}
 use Rattle.pe_rules.specs.Numbering.{is_frame, frames_made}
 use Rattle.pe_rules.specs.Settings.{last_setting, standing_of}
 use Rattle.pe_rules.specs.Statuses.{live_statuses}
 use Rattle.pe_rules.specs.Replies.{replied, is_regular}
-use Rattle.pe_engine.specs.declared.engine.Made.{Made}
 use Rattle.pe_engine.specs.Objects.{handle_at}
 use Rattle.pe_engine.specs.StandsFor.{EngineValue, StandsFor}
 

@@ -1,45 +1,44 @@
 -- What each verb is answered, by what the engine keeps of the document.
-use Rattle.std.proofs.Common.{◌≡◌, ℕ, ◌≤◌, Bool, true, false, not, nat_le, List, [], ◌∷◌, length, map, Option, Some, None, Result, Ok, Err, IsTrue, is_some, is_none, unwrap_or, option_map, refl, sym, ◌∙◌, ap, subst, arith}
-use Rattle.std.proofs.lemmas.Bool.Decides.{nat_tests}
-use Rattle.pe_base.specs.declared.limits.TheConstants.{PAGE_LIMIT}
+use Rattle.std.proofs.Common.{◌≡◌, ℕ, Bool, true, false, not, ◌||◌, nat_le, List, length, map, Option, Some, None, Err, is_some, is_none, option_map, refl, sym, ◌∙◌, ap, subst}
+use Rattle.pe_base.specs.declared.limits.TheConstants.{PAGE_LIMIT, DEPTH_LIMIT, FRAME_LIMIT}
 use Rattle.pe_base.specs.declared.denial.Denial.{Denial}
 use Rattle.pe_base.specs.Activation.{is_sticky, is_transient, is_history_active}
 use Rattle.pe_features.specs.declared.feature.Feature.{Feature}
 use Rattle.pe_features.specs.Features.{feature_named, all_features, default_of}
-use Rattle.pe_frames.specs.Forest.{page_count}
+use Rattle.pe_arena.specs.declared.handle.Handle.{Handle}
+use Rattle.pe_frames.specs.declared.node.Node.{Node}
+use Rattle.pe_frames.specs.Forest.{Entry, page_count, page_size, depth_of, top_of, entry_of, node_in}
 use Rattle.pe_origin.specs.declared.place.Place.{Place}
 use Rattle.pe_origin.specs.Places.{place_at}
-use Rattle.pe_events.specs.declared.answer.Answer.{Answer}
 use Rattle.pe_events.specs.declared.answer.Answer.TheVariants as answer
 use Rattle.pe_events.specs.declared.cause.Cause.{Cause}
 use Rattle.pe_events.specs.declared.cause.Cause.TheVariants as cause
 use Rattle.pe_events.specs.declared.event.AttrName.{AttrName}
 use Rattle.pe_events.specs.declared.event.AttrName.TheVariants as attr
-use Rattle.pe_events.specs.declared.event.Event.{Event}
 use Rattle.pe_events.specs.declared.event.Event.TheVariants as event
 use Rattle.pe_events.specs.Timed.{Timed}
 use Rattle.pe_events.specs.declared.reason.Reason.TheVariants as reason
 use Rattle.pe_rules.specs.History.{Replied, RepliedHistory, History}
+use Rattle.pe_rules.specs.Embedders.{depth}
 use Rattle.pe_rules.specs.Current.{document_in}
 use Rattle.pe_rules.specs.Origins.{place_or_none}
 use Rattle.pe_rules.specs.Denials.{why_denied, is_allowed}
-use Rattle.pe_rules.specs.Activation.{stamp_of}
-use Rattle.pe_rules.specs.HistoryActivation.{second_stamp_of, has_history_activation}
 use Rattle.pe_rules.specs.Settings.{setting_named, setting_by}
-use Rattle.pe_rules.specs.Causes.{cause_of, lacks_default, is_no_url, has_bad_url, has_bad_feature, has_bad_call, has_bad_capability, names_other_page, live_pages, exceeds_pages, exceeds_depth, exceeds_frames, exceeds_statuses, exceeds_pending, exceeds_store}
+use Rattle.pe_rules.specs.Causes.{cause_of, lacks_default, is_no_url, has_bad_url, has_bad_feature, has_bad_call, has_bad_capability, names_other_page, count_in_page, live_frames, live_pages, exceeds_pages, exceeds_depth, exceeds_frames, exceeds_statuses, exceeds_pending, exceeds_store}
 use Rattle.pe_rules.specs.Replies.{answer_of, answer_of_denial, answer_of_history_action, step_answer, replied}
 use Rattle.pe_laws.specs.HistoryLaws.{HistoryLaws}
-use Rattle.pe_engine.specs.declared.attribute.Attribute.{Attribute}
 use Rattle.pe_engine.specs.declared.row.Row.{Row}
 use Rattle.pe_engine.specs.declared.refusal.Refusal.{Refusal}
 use Rattle.pe_engine.specs.declared.refusal.Refusal.TheVariants as refusal
 use Rattle.pe_engine.specs.Causes.{other_cause}
-use Rattle.pe_engine.specs.Giving.{GivesPlace, GivesAttribute, is_bad_value}
-use Rattle.pe_engine.specs.Replying.{steps_of, timed, IsAnswer}
+use Rattle.pe_engine.specs.Embedding.{limit_cause}
+use Rattle.pe_engine.specs.Objects.{handle_at}
+use Rattle.pe_engine.specs.Giving.{GivesPlace, GivesPlaceOrNone, GivesAttribute, is_bad_value}
+use Rattle.pe_engine.specs.Replying.{steps_of, IsAnswer, IsChecked}
 use Rattle.pe_engine.specs.Rows.{IsShown}
 use Rattle.pe_engine.specs.StandsFor.{EngineValue, StandsFor}
 use Rattle.pe_engine.proofs.Accepted.{IsSilent}
-use Rattle.pe_engine.proofs.Look.{pages-at}
+use Rattle.pe_engine.proofs.Look.{pages-at, node-at, depth-at, size-at}
 
 -- ---- the other causes
 
@@ -177,3 +176,58 @@ allowed-by T d f o r some is tested = rw (some, sym is) (by_test o r tested)
     by_test None false h = cc
     by_test (Some x) true h = cc
     by_test (Some x) false h = refl
+
+-- ---- an embedding
+
+pub url-embed : (T : RepliedHistory) (now parent : ℕ) (src place allow sandbox : Option (List ℕ)) (fullscreen srcdoc : Bool) (header : Option (List ℕ)) → (is_no_url src || is_no_url place) ≡ true
+    → other_cause T now (event.Embed parent src place allow sandbox fullscreen srcdoc header) ≡ Some cause.Url
+unfolding other_cause has_bad_url
+url-embed T now parent src place allow sandbox fullscreen srcdoc header bad = rw bad refl
+
+pub limit-embed : (T : RepliedHistory) (now parent : ℕ) (src place allow sandbox : Option (List ℕ)) (fullscreen srcdoc : Bool) (header : Option (List ℕ)) → is_no_url src ≡ false → is_no_url place ≡ false
+    → other_cause T now (event.Embed parent src place allow sandbox fullscreen srcdoc header) ≡ limit_cause (depth T parent) (count_in_page T parent (live_frames T))
+unfolding other_cause has_bad_url has_bad_feature has_bad_call has_bad_capability names_other_page exceeds_pages exceeds_depth exceeds_frames exceeds_statuses exceeds_pending exceeds_store setting_named setting_by
+limit-embed T now parent src place allow sandbox fullscreen srcdoc header good fine = rw (good, fine) refl
+
+pub place-checked : (A : Type 0) (engine : EngineValue) (H : History) (e : Timed) (url : Option (List ℕ)) (r : Refusal) → GivesPlaceOrNone url (Err r)
+    → (is_no_url url ≡ true → cause_of (steps_of engine H) e.time e.event ≡ Some cause.Url) → IsChecked {A = A} engine H e (Err r)
+place-checked A engine H e url (refusal.For why) gives first = first gives.0 ∙ ap Some (sym gives.1)
+place-checked A engine H e url refusal.Memory gives first = tt
+
+pub second-bad : (a b : Bool) → b ≡ true → (a || b) ≡ true
+second-bad true b h = refl
+second-bad false b h = h
+
+pub limit-depth : (d n : ℕ) → nat_le DEPTH_LIMIT d ≡ true → Some cause.LimitDepth ≡ limit_cause d n
+limit-depth d n h = rw h refl
+
+pub limit-frames : (d n : ℕ) → nat_le DEPTH_LIMIT d ≡ false → nat_le FRAME_LIMIT n ≡ true → Some cause.LimitFrames ≡ limit_cause d n
+limit-frames d n h k = rw (h, k) refl
+
+pub limit-none : (d n : ℕ) → nat_le DEPTH_LIMIT d ≡ false → nat_le FRAME_LIMIT n ≡ false → ◌≡◌ {A = Option Cause} None (limit_cause d n)
+limit-none d n h k = rw (h, k) refl
+
+-- the depth and the size of its page that the tree tells of a live frame
+pub limits-at : (e : EngineValue) (H : History) (f : ℕ) (h : Handle) (x : Entry Row) → StandsFor e H → handle_at e.made f ≡ Some h → entry_of e.frames.entries h ≡ Some x
+    → (depth_of x ≡ depth (replied e.duration H) f) × (page_size e.frames.entries (top_of x) ≡ count_in_page (replied e.duration H) f (live_frames (replied e.duration H)))
+limits-at e H f h x s at found =
+    let T = replied e.duration H in
+    let (frame, node) = node-at T e.made e.frames f h x s.steps.tree at found in
+    (depth-at T e.made x node ∙ ap (depth T) frame, size-at T e.made e.frames x s.steps.tree node ∙ ap (λ g. count_in_page T g (live_frames T)) frame)
+
+pub node-depth : (o : Option (Entry Row)) (n : Node Row) (x : Entry Row) → option_map node_in o ≡ Some n → o ≡ Some x → depth_of x ≡ n.depth
+node-depth None n x z is = cc
+node-depth (Some y) n x z is = let i : node_in y ≡ n = cc in let j : y ≡ x = cc in ap depth_of (sym j) ∙ ap (λ (m : Node Row). m.depth) i
+
+pub size-found : (es : List (Entry Row)) (h : Handle) (x : Entry Row) (n : ℕ) → entry_of es h ≡ Some x → option_map (λ y. page_size es (top_of y)) (entry_of es h) ≡ Some n → page_size es (top_of x) ≡ n
+size-found es h x n found is = let z : Some (page_size es (top_of x)) ≡ Some n = sym (ap (option_map (λ y. page_size es (top_of y))) found) ∙ is in cc
+
+-- what a check refuses, the event is refused for
+pub checked-refused : (A : Type 0) (engine : EngineValue) (H : History) (e : Timed) (r : Refusal) → IsChecked {A = A} engine H e (Err r) → StandsFor engine H → IsAnswer engine H e (Err r)
+checked-refused A engine H e (refusal.For why) first stands = record { first = first; stands = stands }
+checked-refused A engine H e refusal.Memory first stands = tt
+
+-- the document of an entry that is found
+pub doc-of : (o : Option (Entry Row)) (r : Row) (y : Entry Row) → option_map (λ x. x.doc) o ≡ Some r → o ≡ Some y → y.doc ≡ r
+doc-of None r y is found = cc
+doc-of (Some x) r y is found = let i : x ≡ y = cc in let j : x.doc ≡ r = cc in ap (λ (z : Entry Row). z.doc) (sym i) ∙ j

@@ -1,11 +1,10 @@
 -- What applying an event changes of an engine.
 -- This project's own.
-use Rattle.std.specs.Prelude.{◌≡◌, ℕ, List, [], ◌∷◌, ◌++◌, Option}
+use Rattle.std.specs.Prelude.{◌≡◌, ℕ, List, [], ◌∷◌, ◌++◌}
 use Rattle.pe_arena.specs.declared.handle.Handle.{Handle}
-use Rattle.pe_frames.specs.Forest.{Forest, opened, mark_of, Gives}
+use Rattle.pe_frames.specs.Forest.{opened, mark_of, Gives}
 use Rattle.pe_engine.specs.declared.attribute.Attribute.{Attribute}
 use Rattle.pe_engine.specs.declared.attribute.Attribute.TheVariants.{Src, Srcdoc, Allow, Sandbox, Fullscreen}
-use Rattle.pe_engine.specs.declared.engine.Made.{Made}
 use Rattle.pe_engine.specs.declared.engine.Made.TheVariants as made
 use Rattle.pe_engine.specs.declared.row.Attributes.{Attributes}
 use Rattle.pe_engine.specs.declared.row.Row.{Row}

@@ -9,3 +9,4 @@ pub mod Replying
 pub mod Giving
 pub mod Changing
 pub mod Stepping
+pub mod Embedding

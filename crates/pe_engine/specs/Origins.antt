@@ -1,13 +1,12 @@
 -- That an origin is same origin with itself: a law that a row of a document hands on.
 -- HTML Standard, "same origin".
-use Rattle.std.proofs.Common.{◌≡◌, ◌==◌, ℕ, List, ◌&&◌, IsTrue, refl, bytes_eq, true, Bool}
+use Rattle.std.proofs.Common.{◌≡◌, IsTrue, refl, true}
 use Rattle.std.specs.Cmp.Lexicographic.{bytes_decides}
 use Rattle.std.proofs.lemmas.Bool.Decides.{Decides-eqb}
 use Rattle.pe_origin.specs.declared.scheme.Scheme.{Scheme}
 use Rattle.pe_origin.specs.declared.scheme.Scheme.TheVariants.{Http, Https, Ws, Wss, Ftp}
 use Rattle.pe_origin.specs.declared.scheme.HostForm.{HostForm}
 use Rattle.pe_origin.specs.declared.scheme.HostForm.TheVariants.{Domain, V4, V6}
-use Rattle.pe_origin.specs.declared.origin.Tuple.{Tuple}
 use Rattle.pe_origin.specs.declared.origin.Origin.{Origin}
 use Rattle.pe_origin.specs.declared.origin.Origin.TheVariants as origin
 use Rattle.pe_origin.specs.Origins.{is_same_scheme, is_same_form, is_same_origin}

@@ -1,7 +1,7 @@
 -- What an event is answered, and what the engine stands for then.
 -- This project's own.
 -- A refusal leaves everything as it is; an accepted event goes to the history. Of want of memory nothing is said.
-use Rattle.std.specs.Prelude.{◌≡◌, ℕ, List, ◌∷◌, Option, Some, None, Result, Ok, Err}
+use Rattle.std.specs.Prelude.{◌≡◌, ℕ, ◌∷◌, Some, None, Result, Ok, Err}
 use Rattle.pe_events.specs.declared.answer.Answer.{Answer}
 use Rattle.pe_events.specs.declared.cause.Cause.{Cause}
 use Rattle.pe_events.specs.declared.event.Event.{Event}
@@ -39,8 +39,8 @@ IsAnswer new H e (Ok said) = IsAcceptance new H e said
 IsAnswer new H e (Err (refusal.For why)) = IsRefusal new H e why
 IsAnswer new H e (Err refusal.Memory) = Unit {0}
 
--- what was looked up before an event is applied, or why it is refused; the engine stands for the history as before
-abbrev pub IsChecked : {A : Type 0} → EngineValue → History → Timed → (A → Type 0) → Result A Refusal → Type 0
-IsChecked engine H e P (Ok found) = (cause_of (steps_of engine H) e.time e.event ≡ None) × P found
-IsChecked engine H e P (Err (refusal.For why)) = cause_of (steps_of engine H) e.time e.event ≡ Some why
-IsChecked engine H e P (Err refusal.Memory) = Unit {0}
+-- what was looked up for an event has no cause against it, or the refusal is for the first cause
+abbrev pub IsChecked : {A : Type 0} → EngineValue → History → Timed → Result A Refusal → Type 0
+IsChecked engine H e (Ok found) = cause_of (steps_of engine H) e.time e.event ≡ None
+IsChecked engine H e (Err (refusal.For why)) = cause_of (steps_of engine H) e.time e.event ≡ Some why
+IsChecked engine H e (Err refusal.Memory) = Unit {0}

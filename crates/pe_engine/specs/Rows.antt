@@ -1,12 +1,13 @@
 -- What the row of a document says of it.
 -- This project's own: each field is the value that the definitions give.
-use Rattle.std.specs.Prelude.{◌≡◌, ℕ, false, List, ◌∷◌, Some, None, option_map}
+use Rattle.std.specs.Prelude.{◌≡◌, ℕ, false, List, ◌∷◌, Option, Some, None, option_map}
 use Rattle.pe_policy.specs.Links.{ChainDocument, end_of_chain}
 use Rattle.pe_policy.specs.PolicyValue.{PolicyValue, IsPolicyOf}
 use Rattle.pe_rules.specs.History.{RepliedHistory}
 use Rattle.pe_rules.specs.Attributes as rules
 use Rattle.pe_rules.specs.Attributes.{attributes_of}
 use Rattle.pe_rules.specs.Origins.{origin_of, sandbox_flag, place_or_none}
+use Rattle.pe_rules.specs.Numbering.{parent_frame}
 use Rattle.pe_rules.specs.Current.{document_in}
 use Rattle.pe_rules.specs.Denials.{chain_document, chain_documents}
 use Rattle.pe_rules.specs.Activation.{stamp_of}
@@ -47,3 +48,8 @@ pub record IsRow (T : RepliedHistory) (f : ℕ) (x : Row) : Type 0 where
 pub record IsShown (T : RepliedHistory) (f : ℕ) (x : Row) : Type 0 where
   pub document : document_in T f ≡ Some x.doc
   pub row : IsRow T f x
+
+-- the row is that of the document that embeds the one of frame f; a top frame has none
+abbrev pub IsEmbedder : RepliedHistory → ℕ → Option Row → Type 0
+IsEmbedder T f None = parent_frame T f ≡ None
+IsEmbedder T f (Some x) = (g : ℕ) × (parent_frame T f ≡ Some g) × IsShown T g x

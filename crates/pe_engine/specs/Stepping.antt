@@ -1,7 +1,7 @@
 -- What a step of the engine replies.
 -- This project's own.
 -- A line here for each verb that is built; an event of another verb is refused as no line of the grammar.
-use Rattle.std.specs.Prelude.{◌≡◌, Bool, true, false, List, [], ◌∷◌, Option, Some, None}
+use Rattle.std.specs.Prelude.{◌≡◌, Bool, true, false, [], ◌∷◌, Option, Some, None}
 use Rattle.pe_events.specs.declared.answer.Answer.TheVariants as answer
 use Rattle.pe_events.specs.declared.cause.Cause.{Cause}
 use Rattle.pe_events.specs.declared.cause.Cause.TheVariants as cause
@@ -19,6 +19,8 @@ use Rattle.pe_engine.specs.StandsFor.{EngineValue, StandsFor}
 -- the verb is built
 abbrev pub is_answered : Event → Bool
 is_answered (event.OpenPage url header) = true
+is_answered (event.Embed parent src place allow sandbox fullscreen srcdoc header) = true
+is_answered (event.Navigate frame url header) = true
 is_answered (event.Attr frame name value) = true
 is_answered (event.Close frame) = true
 is_answered (event.Ask frame) = true

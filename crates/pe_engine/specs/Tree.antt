@@ -1,7 +1,7 @@
 -- What the tree and the list of made things stand for.
 -- This project's own.
 -- The frames of the tree are the live ones, newest first; each stands under the handle of its number, with the handles of the frames of its document's chain.
-use Rattle.std.specs.Prelude.{◌≡◌, ℕ, ◌+◌, ◌<◌, ◌≤◌, List, [], ◌∷◌, map, filter, length, Some, is_some}
+use Rattle.std.specs.Prelude.{◌≡◌, ℕ, ◌<◌, List, [], ◌∷◌, map, filter, length, Some, is_some}
 use Rattle.pe_arena.specs.declared.handle.Handle.{Handle}
 use Rattle.pe_frames.specs.Forest.{Entry, Forest, path, mark_of}
 use Rattle.pe_rules.specs.History.{RepliedHistory}

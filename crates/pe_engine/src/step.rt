@@ -30,6 +30,30 @@ impl Engine {
         let now = Millis::of(stamped.time);
         match &stamped.event {
             Event::OpenPage { url, header } => self.open(now, url, header),
+            Event::Embed {
+                parent,
+                src,
+                place,
+                allow,
+                sandbox,
+                fullscreen,
+                srcdoc,
+                header,
+            } => self.embed(
+                now,
+                *parent,
+                src,
+                place,
+                allow,
+                sandbox,
+                *fullscreen,
+                *srcdoc,
+                header,
+                steps,
+            ),
+            Event::Navigate { frame, url, header } => {
+                self.navigate(now, *frame, url, header, steps)
+            }
             Event::Attr { frame, name, value } => self.attr(now, *frame, *name, value, steps),
             Event::Close { frame } => self.close(now, *frame),
             Event::Ask { frame } => self.state(now, *frame, steps),
@@ -42,9 +66,7 @@ impl Engine {
             ),
             Event::Features { frame } => self.features(now, *frame, steps),
             Event::Tick => self.tick(now),
-            Event::Embed { .. }
-            | Event::Navigate { .. }
-            | Event::Input { .. }
+            Event::Input { .. }
             | Event::UseCall { .. }
             | Event::Query { .. }
             | Event::DropStatus { .. }

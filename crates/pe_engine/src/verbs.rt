@@ -2,6 +2,7 @@
 mod attr;
 mod close;
 mod history;
+mod navigate;
 mod open;
 mod policy;
 mod state;
