@@ -1,5 +1,5 @@
 //! One event after another.
-ghost use Rattle.std.specs.Prelude.{◌≡◌, true, false, IfOk, Err, OnOk, OnErr, []};
+ghost use Rattle.std.specs.Prelude.{◌≡◌, true, false, IfOk, IsOkAnd, Err, OnOk, OnErr, []};
 ghost use Rattle.pe_events.specs.declared.cause.Cause.TheVariants as cause;
 ghost use Rattle.pe_engine.specs.Replying.{timed, IsAnswer};
 ghost use Rattle.pe_engine.specs.Stepping.{is_answered, IsReply, IsSyntaxRefusal};
@@ -100,7 +100,7 @@ impl Engine {
         steps: &mut Steps<L>,
     ) -> Result<Replies, AllocError>
         ensures replied { (H : History) → StandsFor self.old H → is_answered stamped.now.event ≡ true → IfOk result (IsReply self.new H (timed stamped.now.time stamped.now.event)) }
-        ensures other { self.old.failed ≡ false → is_answered stamped.now.event ≡ false → IfOk result (λ r. IsSyntaxRefusal r × (self.new ≡ self.old)) }
+        ensures other { self.old.failed ≡ false → is_answered stamped.now.event ≡ false → IsOkAnd result (λ r. IsSyntaxRefusal r × (self.new ≡ self.old)) }
         ensures once_failed { self.old.failed ≡ true → OnOk result ⊥ × (self.new ≡ self.old) }
         ensures fails { OnErr result (self.new.failed ≡ true) }
     {
