@@ -99,11 +99,12 @@ module _ (laws : HistoryLaws) where
       → u.duration ≡ e.duration → u.failed ≡ e.failed → u.clock ≡ x.time
       → cause_of (replied e.duration H) x.time x.event ≡ None → said ≡ answer_of e.duration (replied e.duration H) x.time x.event
       → ((item : StepAnswer) → item ≡ step_answer e.duration (replied e.duration H) x.time x.event → IsTree (step_of x item ∷ replied e.duration H) u.made u.frames)
-      → IsAcceptance u H x said
+      → IsAcceptance e u H x said
   accept e u H x said plain stands same working now none says tree = record {
-    faultless = ap (λ d. cause_of (replied d H) x.time x.event) same ∙ none;
-    says = says ∙ ap (λ d. answer_of d (replied d H) x.time x.event) (sym same);
-    unset = subst (λ d. IsUnset (replied d H)) (sym same) stands.steps.unset;
+    faultless = none;
+    says = says;
+    unset = stands.steps.unset;
+    duration = same;
     stands = accepted e u H x plain stands none same working now tree;
   }
 
@@ -111,7 +112,7 @@ module _ (laws : HistoryLaws) where
   pub accept-silent : (e u : EngineValue) (H : History) (x : Timed) (said : Answer) → IsPlain x.event → IsSilent x.event (step_answer e.duration (replied e.duration H) x.time x.event) → StandsFor e H
       → IsNoted e u x.time made.Nothing e.frames
       → cause_of (replied e.duration H) x.time x.event ≡ None → said ≡ answer_of e.duration (replied e.duration H) x.time x.event
-      → IsAcceptance u H x said
+      → IsAcceptance e u H x said
   accept-silent e u H x said plain silent stands noted none says =
       accept e u H x said plain stands noted.duration noted.failed noted.clock none says (λ item is.
       rw (noted.made, noted.frames_are) (by_item item (subst (IsSilent x.event) (sym is) silent)))

@@ -1,5 +1,5 @@
 -- Answers that are refusals.
-use Rattle.std.proofs.Common.{◌≡◌, Some, Result, Ok, Err, sym, subst}
+use Rattle.std.proofs.Common.{◌≡◌, Some, Result, Ok, Err, refl, sym, subst}
 use Rattle.std.specs.Result.{IsErrAnd}
 use Rattle.pe_events.specs.declared.answer.Answer.{Answer}
 use Rattle.pe_events.specs.declared.cause.Cause.{Cause}
@@ -12,12 +12,12 @@ use Rattle.pe_engine.specs.Replying.{steps_of, IsAnswer}
 use Rattle.pe_engine.specs.StandsFor.{EngineValue, StandsFor}
 
 -- a refusal for a cause
-pub answer-for : (new : EngineValue) (H : History) (e : Timed) (why : Cause) (r : Result Answer Refusal) → IsErrAnd r (λ x. x ≡ refusal.For why)
-    → cause_of (steps_of new H) e.time e.event ≡ Some why → StandsFor new H → IsAnswer new H e r
-answer-for new H e why (Ok said) is first stands = absurd is
-answer-for new H e why (Err x) is first stands = subst (λ y. IsAnswer new H e (Err y)) (sym is) (record { first = first; stands = stands })
+pub answer-for : (old : EngineValue) (H : History) (e : Timed) (why : Cause) (r : Result Answer Refusal) → IsErrAnd r (λ x. x ≡ refusal.For why)
+    → cause_of (steps_of old H) e.time e.event ≡ Some why → IsAnswer old old H e r
+answer-for old H e why (Ok said) is first = absurd is
+answer-for old H e why (Err x) is first = subst (λ y. IsAnswer old old H e (Err y)) (sym is) (record { first = first; kept = refl })
 
 -- want of memory
-pub answer-memory : (new : EngineValue) (H : History) (e : Timed) (r : Result Answer Refusal) → IsErrAnd r (λ x. x ≡ refusal.Memory) → IsAnswer new H e r
-answer-memory new H e (Ok said) is = absurd is
-answer-memory new H e (Err x) is = subst (λ y. IsAnswer new H e (Err y)) (sym is) tt
+pub answer-memory : (old new : EngineValue) (H : History) (e : Timed) (r : Result Answer Refusal) → IsErrAnd r (λ x. x ≡ refusal.Memory) → IsAnswer old new H e r
+answer-memory old new H e (Ok said) is = absurd is
+answer-memory old new H e (Err x) is = subst (λ y. IsAnswer old new H e (Err y)) (sym is) tt

@@ -95,7 +95,7 @@ module _ (laws : HistoryLaws) where
       → place_or_none (embedded_url pl src) ≡ place → a ≡ kept_attributes (record { src = src; srcdoc = srcdoc; allow = allow; sandbox = sandbox; fullscreen = fullscreen })
       → cause_of (replied e.duration H) now (event.Embed parent src pl allow sandbox fullscreen srcdoc header) ≡ None
       → IsChildRow y.doc number place srcdoc header a x → HasOpened e u now (path_of e.frames.entries h) number (record x { attributes = a })
-      → IsAcceptance u H (timed now (event.Embed parent src pl allow sandbox fullscreen srcdoc header)) (answer.FrameMade number number x.origin)
+      → IsAcceptance e u H (timed now (event.Embed parent src pl allow sandbox fullscreen srcdoc header)) (answer.FrameMade number number x.origin)
   unfolding frames_above answer_of new_origin making_by
   accept-embed e u H now number parent src pl allow sandbox fullscreen srcdoc header h y place a x stands at handle found named given none row opened =
       accept laws e u H (timed now v) (answer.FrameMade number number x.origin) (record { makes = λ i. refl; drops = λ i. refl; sets = λ i. refl; dismisses = λ i. refl }) stands

@@ -148,7 +148,7 @@ module _ (laws : HistoryLaws) where
       → cause_of (replied e.duration H) now (event.Navigate f url header) ≡ None
       → IsNew number x → ((item : StepAnswer) → IsSettled (record { time = now; event = event.Navigate f url header; item = item } ∷ replied e.duration H) x)
       → v.entries ≡ navigated h (record x { attributes = y.doc.attributes }) e.frames.entries → v.marks ≡ e.frames.marks → IsNoted e u now made.Doc v
-      → IsAcceptance u H (timed now (event.Navigate f url header)) (answer.DocMade number x.origin)
+      → IsAcceptance e u H (timed now (event.Navigate f url header)) (answer.DocMade number x.origin)
   unfolding answer_of new_origin
   accept-nav e u H now number f url header h y x v stands at handle found none fresh settled entries marks noted =
       accept laws e u H (timed now (event.Navigate f url header)) (answer.DocMade number x.origin) (record { makes = λ i. refl; drops = λ i. refl; sets = λ i. refl; dismisses = λ i. refl }) stands

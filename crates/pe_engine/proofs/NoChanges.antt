@@ -29,14 +29,15 @@ after-none : (T U : RepliedHistory) (now : ℕ) → live_statuses T ≡ [] → c
 unfolding changes_after
 after-none T U now none = rw none refl
 
-pub reply-accepted : (new : EngineValue) (H : History) (e : Timed) (said : Answer) (reply : Replies) → IsAcceptance new H e said → reply.answer ≡ said → reply.before.items ≡ [] → reply.after.items ≡ [] → IsReply new H e reply
-reply-accepted new H e said reply is says before after =
-    subst (IsReplyBy new H e reply) (sym is.faultless) (record {
+pub reply-accepted : (old new : EngineValue) (H : History) (e : Timed) (said : Answer) (reply : Replies) → IsAcceptance old new H e said → reply.answer ≡ said → reply.before.items ≡ [] → reply.after.items ≡ [] → IsReply old new H e reply
+reply-accepted old new H e said reply is says before after =
+    subst (IsReplyBy old new H e reply) (sym is.faultless) (record {
       says = says ∙ is.says;
-      before = before ∙ sym (before-none (steps_of new H) e.time is.unset.statuses);
-      after = after ∙ sym (after-none (steps_of new H) (steps_of new (e ∷ H)) e.time is.unset.statuses);
+      before = before ∙ sym (before-none (steps_of old H) e.time is.unset.statuses);
+      after = after ∙ sym (after-none (steps_of old H) (steps_of old (e ∷ H)) e.time is.unset.statuses);
+      duration = is.duration;
       stands = is.stands;
     })
 
-pub reply-refused : (new : EngineValue) (H : History) (e : Timed) (why : Cause) (reply : Replies) → IsRefusal new H e why → reply.answer ≡ answer.Refused why → reply.before.items ≡ [] → reply.after.items ≡ [] → IsReply new H e reply
-reply-refused new H e why reply is says before after = subst (IsReplyBy new H e reply) (sym is.first) (record { says = says; before = before; after = after; stands = is.stands })
+pub reply-refused : (old new : EngineValue) (H : History) (e : Timed) (why : Cause) (reply : Replies) → IsRefusal old new H e why → reply.answer ≡ answer.Refused why → reply.before.items ≡ [] → reply.after.items ≡ [] → IsReply old new H e reply
+reply-refused old new H e why reply is says before after = subst (IsReplyBy old new H e reply) (sym is.first) (record { says = says; before = before; after = after; kept = is.kept })

@@ -63,7 +63,7 @@ module _ (laws : HistoryLaws) where
   pub accept-open : (e u : EngineValue) (H : History) (now number : ℕ) (url : List ℕ) (header : Option (List ℕ)) (place : Place) (x : Row) → StandsFor e H
       → number ≡ length e.made + 1 → place_at url ≡ Some place → cause_of (replied e.duration H) now (event.OpenPage url header) ≡ None
       → IsTopRow number place header x → HasOpened e u now [] number x
-      → IsAcceptance u H (timed now (event.OpenPage url header)) (answer.FrameMade number number x.origin)
+      → IsAcceptance e u H (timed now (event.OpenPage url header)) (answer.FrameMade number number x.origin)
   unfolding frames_above
   accept-open e u H now number url header place x stands at named none row opened =
       accept laws e u H (timed now (event.OpenPage url header)) (answer.FrameMade number number x.origin) (record { makes = λ i. refl; drops = λ i. refl; sets = λ i. refl; dismisses = λ i. refl }) stands

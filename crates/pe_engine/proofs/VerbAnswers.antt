@@ -138,15 +138,15 @@ module _ (laws : HistoryLaws) where
 
 -- ---- refused words
 
-pub place-refused : (new : EngineValue) (H : History) (e : Timed) (url : List ℕ) (r : Refusal) → GivesPlace url (Err r)
-    → (place_at url ≡ None → cause_of (steps_of new H) e.time e.event ≡ Some cause.Url) → StandsFor new H → IsAnswer new H e (Err r)
-place-refused new H e url (refusal.For why) gives first stands = record { first = first gives.0 ∙ ap Some (sym gives.1); stands = stands }
-place-refused new H e url refusal.Memory gives first stands = tt
+pub place-refused : (old : EngineValue) (H : History) (e : Timed) (url : List ℕ) (r : Refusal) → GivesPlace url (Err r)
+    → (place_at url ≡ None → cause_of (steps_of old H) e.time e.event ≡ Some cause.Url) → IsAnswer old old H e (Err r)
+place-refused old H e url (refusal.For why) gives first = record { first = first gives.0 ∙ ap Some (sym gives.1); kept = refl }
+place-refused old H e url refusal.Memory gives first = tt
 
-pub attribute-refused : (new : EngineValue) (H : History) (e : Timed) (name : AttrName) (value : Option (List ℕ)) (r : Refusal) → GivesAttribute name value (Err r)
-    → (is_bad_value name value ≡ true → cause_of (steps_of new H) e.time e.event ≡ Some cause.Url) → StandsFor new H → IsAnswer new H e (Err r)
-attribute-refused new H e name value (refusal.For why) gives first stands = record { first = first gives.0 ∙ ap Some (sym gives.1); stands = stands }
-attribute-refused new H e name value refusal.Memory gives first stands = tt
+pub attribute-refused : (old : EngineValue) (H : History) (e : Timed) (name : AttrName) (value : Option (List ℕ)) (r : Refusal) → GivesAttribute name value (Err r)
+    → (is_bad_value name value ≡ true → cause_of (steps_of old H) e.time e.event ≡ Some cause.Url) → IsAnswer old old H e (Err r)
+attribute-refused old H e name value (refusal.For why) gives first = record { first = first gives.0 ∙ ap Some (sym gives.1); kept = refl }
+attribute-refused old H e name value refusal.Memory gives first = tt
 
 -- ---- a history action that is denied
 
@@ -223,9 +223,9 @@ pub size-found : (es : List (Entry Row)) (h : Handle) (x : Entry Row) (n : ℕ) 
 size-found es h x n found is = let z : Some (page_size es (top_of x)) ≡ Some n = sym (ap (option_map (λ y. page_size es (top_of y))) found) ∙ is in cc
 
 -- what a check refuses, the event is refused for
-pub checked-refused : (A : Type 0) (engine : EngineValue) (H : History) (e : Timed) (r : Refusal) → IsChecked {A = A} engine H e (Err r) → StandsFor engine H → IsAnswer engine H e (Err r)
-checked-refused A engine H e (refusal.For why) first stands = record { first = first; stands = stands }
-checked-refused A engine H e refusal.Memory first stands = tt
+pub checked-refused : (A : Type 0) (engine : EngineValue) (H : History) (e : Timed) (r : Refusal) → IsChecked {A = A} engine H e (Err r) → IsAnswer engine engine H e (Err r)
+checked-refused A engine H e (refusal.For why) first = record { first = first; kept = refl }
+checked-refused A engine H e refusal.Memory first = tt
 
 -- the document of an entry that is found
 pub doc-of : (o : Option (Entry Row)) (r : Row) (y : Entry Row) → option_map (λ x. x.doc) o ≡ Some r → o ≡ Some y → y.doc ≡ r

@@ -21,23 +21,24 @@ timed time e = record { time = time; event = e }
 abbrev pub steps_of : EngineValue → History → RepliedHistory
 steps_of engine H = replied engine.duration H
 
--- the event is accepted with this answer, and the engine stands for the history with it
-pub record IsAcceptance (new : EngineValue) (H : History) (e : Timed) (said : Answer) : Type 0 where
-  pub faultless : cause_of (steps_of new H) e.time e.event ≡ None
-  pub says : said ≡ answer_of new.duration (steps_of new H) e.time e.event
-  pub unset : IsUnset (steps_of new H)
+-- the event is accepted with this answer, and the engine stands for the history with it, with the duration as it was
+pub record IsAcceptance (old new : EngineValue) (H : History) (e : Timed) (said : Answer) : Type 0 where
+  pub faultless : cause_of (steps_of old H) e.time e.event ≡ None
+  pub says : said ≡ answer_of old.duration (steps_of old H) e.time e.event
+  pub unset : IsUnset (steps_of old H)
+  pub duration : new.duration ≡ old.duration
   pub stands : StandsFor new (e ∷ H)
 
--- this is the first cause that applies, and the engine stands for the history still
-pub record IsRefusal (new : EngineValue) (H : History) (e : Timed) (why : Cause) : Type 0 where
-  pub first : cause_of (steps_of new H) e.time e.event ≡ Some why
-  pub stands : StandsFor new H
+-- this is the first cause that applies, and the engine is as before
+pub record IsRefusal (old new : EngineValue) (H : History) (e : Timed) (why : Cause) : Type 0 where
+  pub first : cause_of (steps_of old H) e.time e.event ≡ Some why
+  pub kept : new ≡ old
 
--- the answer to an event after a history, and what the engine stands for then
-abbrev pub IsAnswer : EngineValue → History → Timed → Result Answer Refusal → Type 0
-IsAnswer new H e (Ok said) = IsAcceptance new H e said
-IsAnswer new H e (Err (refusal.For why)) = IsRefusal new H e why
-IsAnswer new H e (Err refusal.Memory) = Unit {0}
+-- the answer to an event after a history, and what the engine is then
+abbrev pub IsAnswer : EngineValue → EngineValue → History → Timed → Result Answer Refusal → Type 0
+IsAnswer old new H e (Ok said) = IsAcceptance old new H e said
+IsAnswer old new H e (Err (refusal.For why)) = IsRefusal old new H e why
+IsAnswer old new H e (Err refusal.Memory) = Unit {0}
 
 -- what was looked up for an event has no cause against it, or the refusal is for the first cause
 abbrev pub IsChecked : {A : Type 0} → EngineValue → History → Timed → Result A Refusal → Type 0

@@ -30,28 +30,29 @@ is_answered (event.Features frame) = true
 is_answered event.Tick = true
 is_answered other = false
 
--- the event is accepted: the answer and both lists of changes are those of the definitions, and the engine stands for the history with it
-pub record IsAcceptedReply (new : EngineValue) (H : History) (e : Timed) (reply : Replies) : Type 0 where
-  pub says : reply.answer ≡ answer_of new.duration (steps_of new H) e.time e.event
-  pub before : reply.before.items ≡ changes_before (steps_of new H) e.time
-  pub after : reply.after.items ≡ changes_after (steps_of new H) (steps_of new (e ∷ H)) e.time
+-- the event is accepted: the answer and both lists of changes are those of the definitions, and the engine stands for the history with it, with the duration as it was
+pub record IsAcceptedReply (old new : EngineValue) (H : History) (e : Timed) (reply : Replies) : Type 0 where
+  pub says : reply.answer ≡ answer_of old.duration (steps_of old H) e.time e.event
+  pub before : reply.before.items ≡ changes_before (steps_of old H) e.time
+  pub after : reply.after.items ≡ changes_after (steps_of old H) (steps_of old (e ∷ H)) e.time
+  pub duration : new.duration ≡ old.duration
   pub stands : StandsFor new (e ∷ H)
 
--- the event is refused for this cause, without a change
-pub record IsRefusedReply (new : EngineValue) (H : History) (reply : Replies) (why : Cause) : Type 0 where
+-- the event is refused for this cause, without a change, and the engine is as before
+pub record IsRefusedReply (old new : EngineValue) (reply : Replies) (why : Cause) : Type 0 where
   pub says : reply.answer ≡ answer.Refused why
   pub before : reply.before.items ≡ []
   pub after : reply.after.items ≡ []
-  pub stands : StandsFor new H
+  pub kept : new ≡ old
 
 -- the reply by the first cause that applies, if one does
-abbrev pub IsReplyBy : EngineValue → History → Timed → Replies → Option Cause → Type 0
-IsReplyBy new H e reply None = IsAcceptedReply new H e reply
-IsReplyBy new H e reply (Some why) = IsRefusedReply new H reply why
+abbrev pub IsReplyBy : EngineValue → EngineValue → History → Timed → Replies → Option Cause → Type 0
+IsReplyBy old new H e reply None = IsAcceptedReply old new H e reply
+IsReplyBy old new H e reply (Some why) = IsRefusedReply old new reply why
 
--- the reply to an event after a history, and what the engine stands for then
-abbrev pub IsReply : EngineValue → History → Timed → Replies → Type 0
-IsReply new H e reply = IsReplyBy new H e reply (cause_of (steps_of new H) e.time e.event)
+-- the reply to an event after a history, and what the engine is then
+abbrev pub IsReply : EngineValue → EngineValue → History → Timed → Replies → Type 0
+IsReply old new H e reply = IsReplyBy old new H e reply (cause_of (steps_of old H) e.time e.event)
 
 -- a refusal as no line of the grammar
 pub record IsSyntaxRefusal (reply : Replies) : Type 0 where

@@ -24,7 +24,7 @@ impl Engine {
         stamped: &Stamped<'_>,
         steps: &mut Steps<L>,
     ) -> Result<Answer, Refusal>
-        ensures built { (H : History) → StandsFor self.old H → is_answered stamped.now.event ≡ true → IsAnswer self.new H (timed stamped.now.time stamped.now.event) result }
+        ensures built { (H : History) → StandsFor self.old H → is_answered stamped.now.event ≡ true → IsAnswer self.old self.new H (timed stamped.now.time stamped.now.event) result }
         ensures other { is_answered stamped.now.event ≡ false → (result ≡ Err (refusal.For cause.Syntax)) × (self.new ≡ self.old) }
     {
         let now = Millis::of(stamped.time);
@@ -99,7 +99,7 @@ impl Engine {
         stamped: &Stamped<'_>,
         steps: &mut Steps<L>,
     ) -> Result<Replies, AllocError>
-        ensures replied { (H : History) → StandsFor self.old H → is_answered stamped.now.event ≡ true → IfOk result (IsReply self.new H (timed stamped.now.time stamped.now.event)) }
+        ensures replied { (H : History) → StandsFor self.old H → is_answered stamped.now.event ≡ true → IfOk result (IsReply self.old self.new H (timed stamped.now.time stamped.now.event)) }
         ensures other { self.old.failed ≡ false → is_answered stamped.now.event ≡ false → IsOkAnd result (λ r. IsSyntaxRefusal r × (self.new ≡ self.old)) }
         ensures once_failed { self.old.failed ≡ true → OnOk result ⊥ × (self.new ≡ self.old) }
         ensures fails { OnErr result (self.new.failed ≡ true) }

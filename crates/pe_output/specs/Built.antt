@@ -1,7 +1,7 @@
--- Which lines are built: until a verb or an option is built, a line with it reads as `syntax`.
+-- Which lines are built: until a verb is built, a line with it reads as `syntax`.
 -- It is this project's own, and grows with each step until every line is built.
 -- The text of the lines as they are built is that of `OutputText` over these readings.
-use Rattle.std.specs.Prelude.{ℕ, Bool, true, false, not, ◌&&◌, ◌==◌, List, [], map, Option, is_some, is_none, if◌then◌else◌}
+use Rattle.std.specs.Prelude.{ℕ, Bool, true, false, List, [], map, Option, if◌then◌else◌}
 use Rattle.std.specs.List.{list_all}
 use Rattle.pe_lines.specs.Lines.{lines_or_too_long, ended_lines_or_too_long}
 use Rattle.pe_events.specs.declared.cause.Cause.TheVariants as cause
@@ -11,17 +11,23 @@ use Rattle.pe_events.specs.Timed.{Timed}
 use Rattle.pe_script.specs.Reading.{Reading, Silent, Refusal, Says}
 use Rattle.pe_output.specs.OutputText.{reading_or_too_long, text_from, refuses_from}
 
--- the verb is built, with the options that stand: a line here for each verb, and a test for each of its options
+-- the verb is built: a line here for each
 abbrev pub is_built_event : Event → Bool
 is_built_event (event.OpenPage url header) = true
-is_built_event (event.Embed parent src place allow sandbox fullscreen srcdoc header) =
-    is_some src && is_none place && is_none allow && is_none sandbox && not fullscreen && not srcdoc
+is_built_event (event.Embed parent src place allow sandbox fullscreen srcdoc header) = true
+is_built_event (event.Navigate frame url header) = true
+is_built_event (event.Attr frame name value) = true
+is_built_event (event.Close frame) = true
+is_built_event (event.Ask frame) = true
+is_built_event (event.History frame) = true
 is_built_event (event.PolicyOf frame feature) = true
+is_built_event (event.Features frame) = true
+is_built_event event.Tick = true
 is_built_event e = false
 
--- the time is built, and the event
+-- what is said is built
 abbrev pub is_built : Timed → Bool
-is_built e = e.time == 0 && is_built_event e.event
+is_built e = is_built_event e.event
 
 -- the reading, where what it says is built: else a refusal
 abbrev pub as_built : Reading → Reading

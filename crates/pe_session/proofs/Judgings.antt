@@ -1,165 +1,176 @@
 -- How a line is judged.
-use Rattle.std.proofs.Common.{◌≡◌, ℕ, Bool, true, false, List, [], ◌∷◌, ◌++◌, Option, Some, None, Result, Ok, Err, IfOk, refl, sym, ◌∙◌, ap, append-nil}
-use Rattle.std.proofs.lemmas.Option.{none-some}
+use Rattle.std.proofs.Common.{◌≡◌, ℕ, Bool, true, false, List, [], ◌∷◌, ◌++◌, Option, Some, None, Result, Ok, Err, IfOk, OnOk, IfSome, IfNone, refl, sym, ◌∙◌, ap, subst, append-nil, cond}
+use Rattle.pe_lines.specs.declared.cutter.Cut.{Cut}
+use Rattle.pe_lines.specs.declared.cutter.Cut.TheVariants as cut
+use Rattle.pe_lines.specs.Cutting.{line_of_cut}
 use Rattle.pe_events.specs.Texts.{answer_text}
-use Rattle.pe_events.specs.declared.answer.Answer.{Answer}
 use Rattle.pe_events.specs.declared.answer.Answer.TheVariants as answer
 use Rattle.pe_events.specs.declared.cause.Cause.{Cause}
+use Rattle.pe_events.specs.declared.cause.Cause.TheVariants as cause
 use Rattle.pe_events.specs.declared.event.Event.{Event}
+use Rattle.pe_events.specs.declared.event.Event.TheVariants as event
 use Rattle.pe_events.specs.Timed.{Timed}
-use Rattle.pe_script.specs.Reading.{Reading, Silent, Refusal, Says}
-use Rattle.pe_rules.specs.History.{RepliedHistory, History, clock}
+use Rattle.pe_script.specs.Reading.{Reading, Silent, Refusal, Says, reading_of}
+use Rattle.pe_rules.specs.History.{History}
 use Rattle.pe_rules.specs.Causes.{cause_of}
-use Rattle.pe_rules.specs.Changes.{numbers_above, changes_before, changes_after}
-use Rattle.pe_rules.specs.Statuses.{live_statuses}
-use Rattle.pe_rules.specs.Replies.{replied, step_answer, accepts_in, reply_in, answer_of}
-use Rattle.pe_output.specs.Built.{reading_built}
-use Rattle.pe_output.specs.OutputText.{event_text, line_text, history_after, history_after_line, is_refused}
-use Rattle.pe_session.specs.declared.events.Events.{Events}
-use Rattle.pe_session.specs.Keeping.{Keeps}
-use Rattle.pe_session.specs.Judging.{Stands, Judged}
-use Rattle.pe_session.specs.Replying.{step_of, is_refusal, IsRefusal, IsAcceptance, IsReply, AnswersReading}
+use Rattle.pe_rules.specs.Changes.{changes_before, changes_after}
+use Rattle.pe_rules.specs.Replies.{replied, accepts_in, reply_in, answer_of}
+use Rattle.pe_engine.specs.declared.replies.Replies.{Replies}
+use Rattle.pe_engine.specs.StandsFor.{EngineValue, StandsFor}
+use Rattle.pe_engine.specs.Stepping.{is_answered, IsAcceptedReply, IsRefusedReply, IsReplyBy, IsReply, IsSyntaxRefusal}
+use Rattle.pe_output.specs.Built.{is_built_event, as_built, reading_built}
+use Rattle.pe_output.specs.OutputText.{changes_text, event_text, line_text, history_after, history_after_line, is_refused}
+use Rattle.pe_session.specs.Judging.{is_refusal, replies_text, Stands, Judged}
+use Rattle.pe_session.proofs.Answered.{not-refused}
 
--- ---- what an event at time 0 brings
+-- ---- what the definitions say of an event, by its cause
 
-no-changes-before : (T : RepliedHistory) → clock T ≡ 0 → changes_before T 0 ≡ []
-unfolding changes_before numbers_above
-no-changes-before T e = rw e refl
-
-no-changes-after : (T U : RepliedHistory) (events : Events) → Keeps events T → changes_after T U 0 ≡ []
-unfolding changes_after live_statuses
-no-changes-after T U events h = rw h.statuses refl
-
--- an event at time 0
-abbrev pub at_zero : Event → Timed
-at_zero e = record { time = 0; event = e }
-
-accepted-is : (T : RepliedHistory) (e : Event) → cause_of T 0 e ≡ None → accepts_in T (at_zero e) ≡ true
+accepted-is : (duration : ℕ) (H : History) (e : Timed) → cause_of (replied duration H) e.time e.event ≡ None → accepts_in (replied duration H) e ≡ true
 unfolding accepts_in
-accepted-is T e c = rw c refl
+accepted-is duration H e c = rw c refl
 
-refused-is : (T : RepliedHistory) (e : Event) (why : Cause) → cause_of T 0 e ≡ Some why → accepts_in T (at_zero e) ≡ false
+refused-is : (duration : ℕ) (H : History) (e : Timed) (why : Cause) → cause_of (replied duration H) e.time e.event ≡ Some why → accepts_in (replied duration H) e ≡ false
 unfolding accepts_in
-refused-is T e why c = rw c refl
+refused-is duration H e why c = rw c refl
 
-reply-accepted : (duration : ℕ) (T : RepliedHistory) (e : Event) (said : Answer) → cause_of T 0 e ≡ None → answer_of duration T 0 e ≡ said → reply_in duration T 0 e ≡ said
+reply-accepted : (duration : ℕ) (H : History) (e : Timed) → cause_of (replied duration H) e.time e.event ≡ None → reply_in duration (replied duration H) e.time e.event ≡ answer_of duration (replied duration H) e.time e.event
 unfolding reply_in
-reply-accepted duration T e said c a = rw (c, a) refl
+reply-accepted duration H e c = rw c refl
 
-reply-refused : (duration : ℕ) (T : RepliedHistory) (e : Event) (why : Cause) → cause_of T 0 e ≡ Some why → reply_in duration T 0 e ≡ answer.Refused why
+reply-refused : (duration : ℕ) (H : History) (e : Timed) (why : Cause) → cause_of (replied duration H) e.time e.event ≡ Some why → reply_in duration (replied duration H) e.time e.event ≡ answer.Refused why
 unfolding reply_in
-reply-refused duration T e why c = rw c refl
+reply-refused duration H e why c = rw c refl
 
-text-accepted : (duration number : ℕ) (H : History) (e : Event) (said : Answer) (old : Events) → Keeps old (replied duration H) → cause_of (replied duration H) 0 e ≡ None → answer_of duration (replied duration H) 0 e ≡ said
-    → event_text duration number H (at_zero e) ≡ answer_text number said
+text-accepted : (duration number : ℕ) (H : History) (e : Timed) → cause_of (replied duration H) e.time e.event ≡ None
+    → event_text duration number H e ≡ changes_text (changes_before (replied duration H) e.time) ++ answer_text number (answer_of duration (replied duration H) e.time e.event) ++ changes_text (changes_after (replied duration H) (replied duration (e ∷ H)) e.time)
 unfolding event_text
-text-accepted duration number H e said old h c a =
-    rw (
-      accepted-is (replied duration H) e c,
-      no-changes-before (replied duration H) h.clock_is,
-      reply-accepted duration (replied duration H) e said c a,
-      no-changes-after (replied duration H) (replied duration (at_zero e ∷ H)) old h,
-    ) (append-nil (answer_text number said))
+text-accepted duration number H e c = rw (accepted-is duration H e c, reply-accepted duration H e c) refl
 
-text-refused : (duration number : ℕ) (H : History) (e : Event) (why : Cause) → cause_of (replied duration H) 0 e ≡ Some why → event_text duration number H (at_zero e) ≡ answer_text number (answer.Refused why)
+text-refused : (duration number : ℕ) (H : History) (e : Timed) (why : Cause) → cause_of (replied duration H) e.time e.event ≡ Some why → event_text duration number H e ≡ answer_text number (answer.Refused why)
 unfolding event_text
-text-refused duration number H e why c = rw (refused-is (replied duration H) e why c, reply-refused duration (replied duration H) e why c) refl
+text-refused duration number H e why c = rw (refused-is duration H e why c, reply-refused duration H e why c) refl
 
-history-accepted : (duration : ℕ) (H : History) (e : Event) → cause_of (replied duration H) 0 e ≡ None → history_after duration H (at_zero e) ≡ at_zero e ∷ H
+history-accepted : (duration : ℕ) (H : History) (e : Timed) → cause_of (replied duration H) e.time e.event ≡ None → history_after duration H e ≡ e ∷ H
 unfolding history_after
-history-accepted duration H e c = rw (accepted-is (replied duration H) e c) refl
+history-accepted duration H e c = rw (accepted-is duration H e c) refl
 
-history-refused : (duration : ℕ) (H : History) (e : Event) (why : Cause) → cause_of (replied duration H) 0 e ≡ Some why → history_after duration H (at_zero e) ≡ H
+history-refused : (duration : ℕ) (H : History) (e : Timed) (why : Cause) → cause_of (replied duration H) e.time e.event ≡ Some why → history_after duration H e ≡ H
 unfolding history_after
-history-refused duration H e why c = rw (refused-is (replied duration H) e why c) refl
+history-refused duration H e why c = rw (refused-is duration H e why c) refl
 
-told-more : (duration : ℕ) (H : History) (e : Event) → replied duration (at_zero e ∷ H) ≡ step_of e (step_answer duration (replied duration H) 0 e) ∷ replied duration H
-unfolding replied
-told-more duration H e = refl
+-- ---- how a line reads
 
--- ---- lines
+pub too-long-reading : (line : Cut) → line ≡ cut.TooLong → reading_built (line_of_cut line) ≡ Refusal cause.LineTooLong
+unfolding reading_built
+too-long-reading line is = rw is refl
 
-pub judged-silent : (duration : ℕ) (events : Events) (number : ℕ) (H : History) (line : Option (List ℕ)) (out : List ℕ) → Stands duration events H → reading_built line ≡ Silent
-    → Judged duration events number H line out out false
+pub silent-reading : (line : Cut) (bytes : List ℕ) → line_of_cut line ≡ Some bytes → reading_of bytes ≡ Silent → reading_built (line_of_cut line) ≡ Silent
+unfolding reading_built
+silent-reading line bytes is reading = rw (is, reading) refl
+
+pub refusal-reading : (line : Cut) (bytes : List ℕ) (why : Cause) → line_of_cut line ≡ Some bytes → reading_of bytes ≡ Refusal why → reading_built (line_of_cut line) ≡ Refusal why
+unfolding reading_built
+refusal-reading line bytes why is reading = rw (is, reading) refl
+
+pub event-reading : (line : Cut) (bytes : List ℕ) (e : Timed) → line_of_cut line ≡ Some bytes → reading_of bytes ≡ Says e → reading_built (line_of_cut line) ≡ as_built (Says e)
+unfolding reading_built
+event-reading line bytes e is reading = rw (is, reading) refl
+
+-- ---- lines that say no event
+
+pub judged-silent : (duration : ℕ) (engine : EngineValue) (number : ℕ) (H : History) (reading : Reading) (out : List ℕ) → Stands duration engine H → reading ≡ Silent
+    → Judged duration engine number H reading out out false
 unfolding line_text history_after_line is_refused
-judged-silent duration events number H line out h e = record {
+judged-silent duration engine number H reading out h e = record {
   stands = rw e h;
   text = rw e (sym (append-nil out));
   refused_is = rw e refl;
 }
 
-judged-refusal : (duration : ℕ) (events : Events) (number : ℕ) (H : History) (line : Option (List ℕ)) (out new : List ℕ) (why : Cause) → Stands duration events H → reading_built line ≡ Refusal why
-    → new ≡ out ++ answer_text number (answer.Refused why) → Judged duration events number H line out new true
+pub judged-refusal : (duration : ℕ) (engine : EngineValue) (number : ℕ) (H : History) (reading : Reading) (out new : List ℕ) (refused : Bool) (why : Cause) → Stands duration engine H → reading ≡ Refusal why
+    → new ≡ out ++ answer_text number (answer.Refused why) → refused ≡ true → Judged duration engine number H reading out new refused
 unfolding line_text history_after_line is_refused
-judged-refusal duration events number H line out new why h e text = record {
+judged-refusal duration engine number H reading out new refused why h e text is = record {
   stands = rw e h;
   text = rw e text;
-  refused_is = rw e refl;
+  refused_is = rw e is;
 }
 
-judged-refused : (duration : ℕ) (events : Events) (number : ℕ) (H : History) (line : Option (List ℕ)) (out new : List ℕ) (e : Event) (why : Cause) → reading_built line ≡ Says (at_zero e)
-    → IsRefusal (replied duration H) e events why → new ≡ out ++ answer_text number (answer.Refused why) → Judged duration events number H line out new true
+-- the same where the refusal may want memory
+pub refused-line : {E : Type 0} (r : Result Bool E) (duration : ℕ) (engine : EngineValue) (number : ℕ) (H : History) (reading : Reading) (out new : List ℕ) (why : Cause) → Stands duration engine H → reading ≡ Refusal why
+    → OnOk r (new ≡ out ++ answer_text number (answer.Refused why)) → IfOk r (λ refused. refused ≡ true) → IfOk r (λ refused. Judged duration engine number H reading out new refused)
+refused-line (Ok refused) duration engine number H reading out new why h e text is = judged-refusal duration engine number H reading out new refused why h e text is
+refused-line (Err x) duration engine number H reading out new why h e text is = tt
+
+-- ---- events
+
+judged-accepted : (engine next : EngineValue) (number : ℕ) (H : History) (e : Timed) (reply : Replies) (out new : List ℕ) → cause_of (replied engine.duration H) e.time e.event ≡ None
+    → IsAcceptedReply engine next H e reply → new ≡ out ++ replies_text number reply → Judged engine.duration next number H (Says e) out new (is_refusal reply.answer)
 unfolding line_text history_after_line is_refused
-judged-refused duration events number H line out new e why says r text = record {
-  stands = rw (says, history-refused duration H e why r.cause) r.kept;
-  text = rw (says, text-refused duration number H e why r.cause) text;
-  refused_is = rw (says, refused-is (replied duration H) e why r.cause) refl;
+judged-accepted engine next number H e reply out new c is text = record {
+  stands = rw (history-accepted engine.duration H e c) (record { lasts = is.duration; engine_stands = is.stands });
+  text = rw (text-accepted engine.duration number H e c, sym is.before, sym is.says, sym is.after) text;
+  refused_is = rw (accepted-is engine.duration H e c, is.says) (not-refused engine.duration (replied engine.duration H) e.time e.event);
 }
 
-judged-accepted : (duration : ℕ) (old events : Events) (number : ℕ) (H : History) (line : Option (List ℕ)) (out new : List ℕ) (e : Event) (said : Answer) → Stands duration old H → reading_built line ≡ Says (at_zero e)
-    → IsAcceptance duration (replied duration H) e events said → new ≡ out ++ answer_text number said → Judged duration events number H line out new false
+-- the text of a reply without changes is its answer
+alone : (number : ℕ) (reply : Replies) (out new : List ℕ) → reply.before.items ≡ [] → reply.after.items ≡ [] → new ≡ out ++ replies_text number reply → new ≡ out ++ answer_text number reply.answer
+alone number reply out new before after text = text ∙ ap (λ t. out ++ t) (rw (before, after) (append-nil (answer_text number reply.answer)))
+
+judged-refused : (engine next : EngineValue) (number : ℕ) (H : History) (e : Timed) (reply : Replies) (out new : List ℕ) (why : Cause) → cause_of (replied engine.duration H) e.time e.event ≡ Some why → StandsFor engine H
+    → IsRefusedReply engine next reply why → new ≡ out ++ replies_text number reply → Judged engine.duration next number H (Says e) out new (is_refusal reply.answer)
 unfolding line_text history_after_line is_refused
-judged-accepted duration old events number H line out new e said h says a text = record {
-  stands = rw (says, history-accepted duration H e a.cause, told-more duration H e) (a.kept (step_answer duration (replied duration H) 0 e));
-  text = rw (says, text-accepted duration number H e said old h a.cause a.answer_is) text;
-  refused_is = rw (says, accepted-is (replied duration H) e a.cause) refl;
+judged-refused engine next number H e reply out new why c stands is text = record {
+  stands = rw (history-refused engine.duration H e why c, is.kept) (record { lasts = refl; engine_stands = stands });
+  text = rw (text-refused engine.duration number H e why c) (alone number reply out new is.before is.after text ∙ ap (λ a. out ++ answer_text number a) is.says);
+  refused_is = rw (refused-is engine.duration H e why c, is.says) refl;
 }
 
-judged-says : (duration : ℕ) (old events : Events) (number : ℕ) (H : History) (line : Option (List ℕ)) (out new : List ℕ) (e : Event) (said : Answer) → Stands duration old H → reading_built line ≡ Says (at_zero e)
-    → IsReply duration (replied duration H) e events said → new ≡ out ++ answer_text number said → Judged duration events number H line out new (is_refusal said)
-judged-says duration old events number H line out new e (answer.Refused why) h says r text = judged-refused duration events number H line out new e why says r text
-judged-says duration old events number H line out new e (answer.FrameMade frame doc origin) h says r text = judged-accepted duration old events number H line out new e _ h says r text
-judged-says duration old events number H line out new e (answer.DocMade doc origin) h says r text = judged-accepted duration old events number H line out new e _ h says r text
-judged-says duration old events number H line out new e answer.Done h says r text = judged-accepted duration old events number H line out new e _ h says r text
-judged-says duration old events number H line out new e (answer.Activated count) h says r text = judged-accepted duration old events number H line out new e _ h says r text
-judged-says duration old events number H line out new e answer.Ignored h says r text = judged-accepted duration old events number H line out new e _ h says r text
-judged-says duration old events number H line out new e (answer.Activity sticky transient) h says r text = judged-accepted duration old events number H line out new e _ h says r text
-judged-says duration old events number H line out new e answer.Allowed h says r text = judged-accepted duration old events number H line out new e _ h says r text
-judged-says duration old events number H line out new e (answer.Denied why) h says r text = judged-accepted duration old events number H line out new e _ h says r text
-judged-says duration old events number H line out new e (answer.Names allowed) h says r text = judged-accepted duration old events number H line out new e _ h says r text
-judged-says duration old events number H line out new e (answer.StatusMade status state) h says r text = judged-accepted duration old events number H line out new e _ h says r text
-judged-says duration old events number H line out new e (answer.Stated state) h says r text = judged-accepted duration old events number H line out new e _ h says r text
-judged-says duration old events number H line out new e (answer.PromptMade prompt) h says r text = judged-accepted duration old events number H line out new e _ h says r text
-judged-says duration old events number H line out new e (answer.PromptJoined prompt) h says r text = judged-accepted duration old events number H line out new e _ h says r text
-judged-says duration old events number H line out new e (answer.Settled count state) h says r text = judged-accepted duration old events number H line out new e _ h says r text
-judged-says duration old events number H line out new e (answer.MessageMade message) h says r text = judged-accepted duration old events number H line out new e _ h says r text
-judged-says duration old events number H line out new e answer.Delivered h says r text = judged-accepted duration old events number H line out new e _ h says r text
-judged-says duration old events number H line out new e answer.DroppedGone h says r text = judged-accepted duration old events number H line out new e _ h says r text
-judged-says duration old events number H line out new e answer.DroppedOther h says r text = judged-accepted duration old events number H line out new e _ h says r text
+judged-reply : (engine next : EngineValue) (number : ℕ) (H : History) (e : Timed) (reply : Replies) (out new : List ℕ) (c : Option Cause) → cause_of (replied engine.duration H) e.time e.event ≡ c → StandsFor engine H
+    → IsReplyBy engine next H e reply c → new ≡ out ++ replies_text number reply → Judged engine.duration next number H (Says e) out new (is_refusal reply.answer)
+judged-reply engine next number H e reply out new None c stands is text = judged-accepted engine next number H e reply out new c is text
+judged-reply engine next number H e reply out new (Some why) c stands is text = judged-refused engine next number H e reply out new why c stands is text
 
-some-is : (a b : Answer) → Some a ≡ Some b → a ≡ b
-some-is a b e = cc
+-- the engine answers the verbs that are built
+answered-is-built : (e : Event) → is_answered e ≡ is_built_event e
+answered-is-built (event.OpenPage url header) = refl
+answered-is-built (event.Embed parent src place allow sandbox fullscreen srcdoc header) = refl
+answered-is-built (event.Navigate frame url header) = refl
+answered-is-built (event.Attr frame name value) = refl
+answered-is-built (event.Close frame) = refl
+answered-is-built (event.Input frame kind) = refl
+answered-is-built (event.Ask frame) = refl
+answered-is-built (event.History frame) = refl
+answered-is-built (event.PolicyOf frame feature) = refl
+answered-is-built (event.Features frame) = refl
+answered-is-built (event.UseCall frame call) = refl
+answered-is-built (event.Query frame feature) = refl
+answered-is-built (event.DropStatus status) = refl
+answered-is-built (event.Request frame feature) = refl
+answered-is-built (event.Answered prompt out given) = refl
+answered-is-built (event.SetState feature first second state span) = refl
+answered-is-built (event.Post sender target named capability) = refl
+answered-is-built (event.Deliver m) = refl
+answered-is-built event.Tick = refl
 
--- a line to which nothing is answered
-pub judged-none : (duration : ℕ) (old events : Events) (number : ℕ) (H : History) (line : Option (List ℕ)) (out : List ℕ) (reading : Reading) (given : Option Answer) → Stands duration old H → reading_built line ≡ reading
-    → AnswersReading duration (replied duration H) reading events given → given ≡ None → Judged duration events number H line out out false
-judged-none duration old events number H line out Silent given h is r none = judged-silent duration events number H line out r.1 is
-judged-none duration old events number H line out (Refusal why) given h is r none = absurd (none-some _ (sym none ∙ r.0))
-judged-none duration old events number H line out (Says e) None h is r none = absurd r.1
-judged-none duration old events number H line out (Says e) (Some said) h is r none = absurd (none-some _ (sym none))
+pub if-none : {A : Type 0} (o : Option A) (P : Type 0) → o ≡ None → IfNone o P → P
+if-none None P e h = h
+if-none (Some x) P e h = cc
 
--- a line to which something is answered
-pub judged-some : (duration : ℕ) (old events : Events) (number : ℕ) (H : History) (line : Option (List ℕ)) (out new : List ℕ) (reading : Reading) (given : Option Answer) (said : Answer) → Stands duration old H → reading_built line ≡ reading
-    → AnswersReading duration (replied duration H) reading events given → given ≡ Some said → new ≡ out ++ answer_text number said → Judged duration events number H line out new (is_refusal said)
-judged-some duration old events number H line out new Silent given said h is r some text = absurd (none-some _ (sym r.0 ∙ some))
-judged-some duration old events number H line out new (Refusal why) given said h is r some text =
-    let same : said ≡ answer.Refused why = some-is said (answer.Refused why) (sym some ∙ r.0) in
-    rw same (judged-refusal duration events number H line out new why r.1 is (rw same at text))
-judged-some duration old events number H line out new (Says e) None said h is r some text = absurd r.1
-judged-some duration old events number H line out new (Says e) (Some x) said h is r some text =
-    let same : x ≡ said = some-is x said some in
-    judged-says duration old events number H line out new e.event said h (is ∙ ap (λ t. Says (record { time = t; event = e.event })) r.0) (rw same at r.1) text
+pub if-some : {A : Type 0} (o : Option A) (x : A) (P : A → Type 0) → o ≡ Some x → IfSome o P → P x
+if-some o x P e h = subst (λ p. IfSome p P) e h
 
-pub ok-more : {A E : Type 0} (r : Result A E) (P Q : A → Type 0) → ((x : A) → P x → Q x) → IfOk r P → IfOk r Q
-ok-more (Ok x) P Q f h = f x h
-ok-more (Err e) P Q f h = tt
+-- an event, by what the engine replied
+pub judged-event : (duration : ℕ) (engine next : EngineValue) (number : ℕ) (H : History) (e : Timed) (reply : Replies) (out new : List ℕ) → Stands duration engine H
+    → (is_answered e.event ≡ true → IsReply engine next H e reply) → (is_answered e.event ≡ false → IsSyntaxRefusal reply × (next ≡ engine))
+    → new ≡ out ++ replies_text number reply → Judged duration next number H (as_built (Says e)) out new (is_refusal reply.answer)
+judged-event duration engine next number H e reply out new h replied_is other text = by_test (is_built_event e.event) refl
+  where
+    by_test : (b : Bool) → is_built_event e.event ≡ b → Judged duration next number H (cond b (Says e) (Refusal cause.Syntax)) out new (is_refusal reply.answer)
+    by_test true is =
+        subst (λ d. Judged d next number H (Says e) out new (is_refusal reply.answer)) h.lasts
+        (judged-reply engine next number H e reply out new _ refl h.engine_stands (replied_is (answered-is-built e.event ∙ is)) text)
+    by_test false is =
+        let (r, same) = other (answered-is-built e.event ∙ is) in
+        judged-refusal duration next number H (Refusal cause.Syntax) out new _ cause.Syntax (rw same h) refl
+        (alone number reply out new r.before r.after text ∙ ap (λ a. out ++ answer_text number a) r.says) (ap is_refusal r.says)

@@ -2,11 +2,6 @@ pub mod Texts
 pub mod Stretches
 pub mod Outcomes
 pub mod Clauses
-pub mod Older
-pub mod Tables
-pub mod Framings
-pub mod Opening
-pub mod Growing
-pub mod Replies
-pub mod Answerings
+pub mod Answered
+pub mod Changing
 pub mod Judgings

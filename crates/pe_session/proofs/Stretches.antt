@@ -8,7 +8,7 @@ use Rattle.pe_lines.specs.Rests.{Rest}
 use Rattle.pe_lines.specs.Cutting.{Cuts, TakesLine, TakesLast, HasNoLine, IsNext, line_of_cut}
 use Rattle.pe_output.specs.Built.{reading_built, built_text, built_ended_text, built_refuses}
 use Rattle.pe_output.specs.OutputText.{line_text, text_from, refuses_from}
-use Rattle.pe_session.specs.declared.events.Events.{Events}
+use Rattle.pe_engine.specs.StandsFor.{EngineValue}
 use Rattle.pe_session.specs.Judging.{Stands, Judged}
 use Rattle.pe_session.specs.Session.{history_after_lines, readings, HasJudged, Adds, AddsLast}
 use Rattle.pe_session.proofs.Texts.{text-append, history-append, refuses-append, text-one, refuses-one, length-readings}
@@ -87,14 +87,14 @@ lines-more taken piece old fed new done h e k none =
     (same, rw same all)
 
 -- and this text, history and flag
-pub piece-went : (duration n : ℕ) (events : Events) (taken piece old new : List ℕ) (was refused : Bool) (done : List (Option (List ℕ)))
+pub piece-went : (duration n : ℕ) (engine : EngineValue) (taken piece old new : List ℕ) (was refused : Bool) (done : List (Option (List ℕ)))
     → ended_lines_or_too_long (taken ++ piece) ≡ ended_lines_or_too_long taken ++ done → n ≡ 1 + length (ended_lines_or_too_long taken)
-    → HasJudged duration events n (history_after_lines duration [] (readings (ended_lines_or_too_long taken))) old new was refused done
+    → HasJudged duration engine n (history_after_lines duration [] (readings (ended_lines_or_too_long taken))) old new was refused done
     → old ≡ [] → was ≡ refuses_from duration [] (readings (ended_lines_or_too_long taken))
-    → Stands duration events (history_after_lines duration [] (readings (ended_lines_or_too_long (taken ++ piece))))
+    → Stands duration engine (history_after_lines duration [] (readings (ended_lines_or_too_long (taken ++ piece))))
     × Adds duration taken piece new × (refused ≡ refuses_from duration [] (readings (ended_lines_or_too_long (taken ++ piece))))
 unfolding built_ended_text
-piece-went duration n events taken piece old new was refused done e at_line w empty flag =
+piece-went duration n engine taken piece old new was refused done e at_line w empty flag =
     let before = ended_lines_or_too_long taken in
     let split : readings (ended_lines_or_too_long (taken ++ piece)) ≡ readings before ++ readings done = ap readings e ∙ map-append reading_built before done in
     let line : n ≡ 1 + length (readings before) = rw (length-readings before) at_line in
@@ -107,13 +107,13 @@ piece-went duration n events taken piece old new was refused done e at_line w em
 
 -- ---- the last line
 
-pub last-some : (duration n : ℕ) (events : Events) (taken old new out text : List ℕ) (line : Option (List ℕ)) (was refused now : Bool)
+pub last-some : (duration n : ℕ) (engine : EngineValue) (taken old new out text : List ℕ) (line : Option (List ℕ)) (was refused now : Bool)
     → Cuts taken (ended_lines_or_too_long taken) old → TakesLast old new line → n ≡ 1 + length (ended_lines_or_too_long taken)
-    → Judged duration events n (history_after_lines duration [] (readings (ended_lines_or_too_long taken))) line out text refused
+    → Judged duration engine n (history_after_lines duration [] (readings (ended_lines_or_too_long taken))) (reading_built line) out text refused
     → out ≡ [] → was ≡ refuses_from duration [] (readings (ended_lines_or_too_long taken)) → now ≡ (was || refused)
     → AddsLast duration taken text × (now ≡ built_refuses duration taken)
 unfolding built_text built_ended_text built_refuses
-last-some duration n events taken old new out text line was refused now h t at_line j empty flag is =
+last-some duration n engine taken old new out text line was refused now h t at_line j empty flag is =
     let before = ended_lines_or_too_long taken in
     let r = reading_built line in
     let G = history_after_lines duration [] (readings before) in

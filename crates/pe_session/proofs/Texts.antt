@@ -6,7 +6,7 @@ use Rattle.pe_rules.specs.History.{History}
 use Rattle.pe_script.specs.Reading.{Reading}
 use Rattle.pe_output.specs.Built.{reading_built}
 use Rattle.pe_output.specs.OutputText.{line_text, history_after_line, is_refused, text_from, refuses_from}
-use Rattle.pe_session.specs.declared.events.Events.{Events}
+use Rattle.pe_engine.specs.StandsFor.{EngineValue}
 use Rattle.pe_session.specs.Judging.{Stands, Judged}
 use Rattle.pe_session.specs.Session.{history_after_lines, readings, HasJudged}
 
@@ -61,19 +61,19 @@ pub length-readings : (lines : List (Option (List ℕ))) → length (readings li
 length-readings [] = refl
 length-readings (l ∷ ls) = ap suc (length-readings ls)
 
-pub Went-none : (duration n : ℕ) (events : Events) (H : History) (out : List ℕ) (refused : Bool) → Stands duration events H → HasJudged duration events n H out out refused refused []
-Went-none duration n events H out refused h = record {
+pub Went-none : (duration n : ℕ) (engine : EngineValue) (H : History) (out : List ℕ) (refused : Bool) → Stands duration engine H → HasJudged duration engine n H out out refused refused []
+Went-none duration n engine H out refused h = record {
   stands = h;
   text = sym (ap (λ t. out ++ t) (text-none duration n H) ∙ append-nil out);
   refused_is = sym (ap (λ r. refused || r) (refuses-none duration H) ∙ or-false refused);
 }
 
 -- one line on
-pub Went-more : (duration n m : ℕ) (events next : Events) (H : History) (old mid new : List ℕ) (was mid_refused now refused : Bool) (done : List (Option (List ℕ))) (line : Option (List ℕ))
-    → m ≡ n + length done → HasJudged duration events n H old mid was mid_refused done
-    → Judged duration next m (history_after_lines duration H (readings done)) line mid new refused
+pub Went-more : (duration n m : ℕ) (engine next : EngineValue) (H : History) (old mid new : List ℕ) (was mid_refused now refused : Bool) (done : List (Option (List ℕ))) (line : Option (List ℕ))
+    → m ≡ n + length done → HasJudged duration engine n H old mid was mid_refused done
+    → Judged duration next m (history_after_lines duration H (readings done)) (reading_built line) mid new refused
     → now ≡ (mid_refused || refused) → HasJudged duration next n H old new was now (done ++ line ∷ [])
-Went-more duration n m events next H old mid new was mid_refused now refused done line e w j is =
+Went-more duration n m engine next H old mid new was mid_refused now refused done line e w j is =
     let G = history_after_lines duration H (readings done) in
     let r = reading_built line in
     let split : readings (done ++ line ∷ []) ≡ readings done ++ r ∷ [] = map-append reading_built done (line ∷ []) in

@@ -1,8 +1,3 @@
-pub mod Saying
-pub mod Framing
-pub mod Unboxed
-pub mod Keeping
-pub mod Replying
 pub mod Judging
 pub mod Session
 pub mod Outcome

@@ -8,7 +8,7 @@ use Rattle.pe_rules.specs.History.{History}
 use Rattle.pe_script.specs.Reading.{Reading}
 use Rattle.pe_output.specs.Built.{reading_built, built_text, built_ended_text}
 use Rattle.pe_output.specs.OutputText.{history_after_line, text_from, refuses_from}
-use Rattle.pe_session.specs.declared.events.Events.{Events}
+use Rattle.pe_engine.specs.StandsFor.{EngineValue}
 use Rattle.pe_session.specs.declared.session.Session.{Session}
 use Rattle.pe_session.specs.Judging.{Stands}
 
@@ -22,8 +22,8 @@ abbrev pub readings : List (Option (List ℕ)) → List Reading
 readings lines = map reading_built lines
 
 -- these lines were judged, the first of which has this number
-pub record HasJudged (duration : ℕ) (events : Events) (number : ℕ) (H : History) (old new : List ℕ) (was refused : Bool) (done : List (Option (List ℕ))) : Type 0 where
-  pub stands : Stands duration events (history_after_lines duration H (readings done))
+pub record HasJudged (duration : ℕ) (engine : EngineValue) (number : ℕ) (H : History) (old new : List ℕ) (was refused : Bool) (done : List (Option (List ℕ))) : Type 0 where
+  pub stands : Stands duration engine (history_after_lines duration H (readings done))
   pub text : new ≡ old ++ text_from duration number H (readings done)
   pub refused_is : refused ≡ (was || refuses_from duration H (readings done))
 
@@ -33,7 +33,7 @@ pub record HasTaken (duration : ℕ) (session : Session) (taken : List ℕ) : Ty
   pub none : ended_lines_or_too_long session.cutter.bytes ≡ []
   pub open_still : session.cutter.finished ≡ false
   pub number : session.number ≡ 1 + length (ended_lines_or_too_long taken)
-  pub stands : Stands duration session.events (history_after_lines duration [] (readings (ended_lines_or_too_long taken)))
+  pub stands : Stands duration session.engine (history_after_lines duration [] (readings (ended_lines_or_too_long taken)))
   pub refused_is : session.refused ≡ refuses_from duration [] (readings (ended_lines_or_too_long taken))
   pub empty : session.out.items ≡ []
 

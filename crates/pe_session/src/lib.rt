@@ -1,14 +1,11 @@
 //! A session: reads a script in pieces, answers each line, and writes the text as the lines come.
 #![tactic(auto)]
 
-mod events;
-mod frame;
 mod judging;
 mod run;
 mod serving;
 mod session;
 mod status;
-mod table;
 
 pub use run::run_within;
 pub use serving::serve;

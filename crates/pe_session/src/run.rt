@@ -75,7 +75,13 @@ pub fn run_within<S: Source, K: Sink>(
     let Ok(mut room) = make_room(alloc, ROOM) else {
         return Status::Memory;
     };
-    stream(limit, &mut Session::new(alloc), &mut room, source, sink)
+    stream(
+        limit,
+        &mut Session::new(alloc, duration),
+        &mut room,
+        source,
+        sink,
+    )
 }
 
 /// Goes on to the end of the input, in a session that has taken nothing yet.
@@ -86,17 +92,17 @@ fn stream<S: Source, K: Sink>(
     source: &mut S,
     sink: &mut K,
 ) -> Status
-    requires starts { (duration : ℕ) → HasTaken duration session.old [] }
+    requires starts { HasTaken session.old.engine.duration session.old [] }
     requires some { 0 < length room.old }
     requires few { length room.old ≤ 65536 }
     requires limit { limit ≤ 1073741824 }
     requires source_count { S.faults source.old < 2 ^ 64 - 1 }
     requires sink_count { K.faults sink.old < 2 ^ 64 - 1 }
 
-    ensures text { (duration : ℕ) → (taken : List ℕ) × (wrote : List ℕ)
+    ensures text { (taken : List ℕ) × (wrote : List ℕ)
         × Consumes (S.left source.old) (S.left source.new) taken
         × Appends (K.written sink.old) (K.written sink.new) wrote
-        × Wrote duration result limit taken (S.left source.new) wrote }
+        × Wrote session.old.engine.duration result limit taken (S.left source.new) wrote }
 
     ensures read_fault { result ≡ Status.ReadFault → S.faults source.old < S.faults source.new }
     ensures no_read_fault { result ≢ Status.ReadFault → S.faults source.new ≡ S.faults source.old }

@@ -1,9 +1,9 @@
 //! A session: the lines of what was taken so far are judged, and their text is written.
-ghost use Rattle.std.specs.Prelude.{◌≡◌, ◌+◌, ◌-◌, ◌^◌, ◌<◌, ◌++◌, false, length, OnOk, IsErrOf};
+ghost use Rattle.std.specs.Prelude.{◌≡◌, ◌+◌, ◌-◌, ◌^◌, ◌<◌, ◌≤◌, ◌++◌, false, length, OnOk, IsErrOf};
 ghost use Rattle.std.specs.Io.KnownBytes.{Appends};
 
-use crate::events::Events;
 use crate::judging::judge;
+use pe_engine::Engine;
 use pe_io::{Sink, write_whole};
 use pe_lines::Cutter;
 use std::alloc::{AllocError, Global};
@@ -20,10 +20,11 @@ pub enum Stop {
 /// The lines of what was taken so far are judged, and their text is written.
 #[derive(Drop)]
 pub struct Session {
+    alloc: Global,
     /// Holds what no line feed has ended yet.
     cutter: Cutter,
     /// What the accepted lines made.
-    events: Events,
+    engine: Engine,
     /// The number of the next line.
     number: u64,
     /// Some line was refused.
@@ -41,13 +42,16 @@ impl Session {
     ghost use Rattle.pe_session.specs.Judging.{Stands};
     ghost use Rattle.pe_session.specs.Session.{HasJudged, HasTaken, Adds, AddsLast};
 
-    /// A session that has taken nothing.
-    pub fn new(alloc: Global) -> Session
-        ensures { (duration : ℕ) → HasTaken duration result [] }
+    /// A session that has taken nothing, in which transient activation lasts for so many milliseconds.
+    pub fn new(alloc: Global, duration: u32) -> Session
+        requires low { 1 ≤ duration }
+        requires high { duration ≤ 60000 }
+        ensures { HasTaken duration result [] }
     {
         Session {
+            alloc,
             cutter: Cutter::new(alloc),
-            events: Events::new(alloc),
+            engine: Engine::new(alloc, duration),
             number: 1,
             refused: false,
             out: Vec::new(alloc),
@@ -70,11 +74,17 @@ impl Session {
             × Cuts self.old.cutter.bytes done self.new.cutter.bytes
             × (ended_lines_or_too_long self.new.cutter.bytes ≡ [])
             × (self.new.number ≡ self.old.number + length done)
-            × ((duration : ℕ) (H : History) → Stands duration self.old.events H
-            → HasJudged duration self.new.events self.old.number H self.old.out.items self.new.out.items self.old.refused self.new.refused done)) }
+            × ((duration : ℕ) (H : History) → Stands duration self.old.engine H
+            → HasJudged duration self.new.engine self.old.number H self.old.out.items self.new.out.items self.old.refused self.new.refused done)) }
     {
         while let Some(line) = self.cutter.next_line() {
-            let refused = judge(&mut self.events, self.number, line, &mut self.out)?;
+            let refused = judge(
+                self.alloc,
+                &mut self.engine,
+                self.number,
+                line,
+                &mut self.out,
+            )?;
             self.refused |= refused;
             self.number += 1;
         }
@@ -116,7 +126,13 @@ impl Session {
         self.cutter.finish();
         match self.cutter.next_line() {
             Some(line) => {
-                let refused = judge(&mut self.events, self.number, line, &mut self.out)?;
+                let refused = judge(
+                    self.alloc,
+                    &mut self.engine,
+                    self.number,
+                    line,
+                    &mut self.out,
+                )?;
                 self.refused |= refused;
                 Ok(())
             }

@@ -85,7 +85,7 @@ fn scripts(rt: HostRuntime) -> Result<(), Fail> {
         ),
         ("0 fly\n", "1 refused syntax\n", Status::Refusals),
         (
-            "1 open https://a.example/\n0 open none\n\"0\" open https://a.example/\n0 \"open\" https://a.example/\n\
+            "01 open https://a.example/\n0 open none\n\"0\" open https://a.example/\n0 \"open\" https://a.example/\n\
              0 policy f01 camera\n0 policy f camera\n0 policy f0 camera\n0 policy f1 Camera\n0 policy f1 \"camera\"\n",
             "1 refused syntax\n2 refused url\n3 refused syntax\n4 refused syntax\n5 refused syntax\n\
              6 refused syntax\n7 refused syntax\n8 refused unknown\n9 refused syntax\n",
@@ -93,7 +93,7 @@ fn scripts(rt: HostRuntime) -> Result<(), Fail> {
         ),
         (
             "0 open \"https://a.example/\"\n0 embed f1 \"https://b.example/\"\n0 open \"none\"\n0 embed f1 \"none\"\n0 embed f1 none\n",
-            "1 frame f1 doc d1 https://a.example\n2 frame f2 doc d2 https://b.example\n3 refused url\n4 refused url\n5 refused syntax\n",
+            "1 frame f1 doc d1 https://a.example\n2 frame f2 doc d2 https://b.example\n3 refused url\n4 refused url\n5 frame f3 doc d3 https://a.example\n",
             Status::Refusals,
         ),
         (
@@ -103,7 +103,7 @@ fn scripts(rt: HostRuntime) -> Result<(), Fail> {
         ),
         (
             "0 open https://a.example/\n0 embed f1 https://b.example/ allow camera\n0 policy f1 fly\n0 policy f9 push\n",
-            "1 frame f1 doc d1 https://a.example\n2 refused syntax\n3 refused feature\n4 refused unknown\n",
+            "1 frame f1 doc d1 https://a.example\n2 frame f2 doc d2 https://b.example\n3 refused feature\n4 refused unknown\n",
             Status::Refusals,
         ),
         (
@@ -246,13 +246,14 @@ fn headers(rt: HostRuntime) -> Result<(), Fail> {
             "0 policy f1 camera\n",
             "2 allowed\n",
         ),
-        // Other options, and headers that are cut short or misspelled.
+        // Options beside headers, and headers that are cut short or misspelled.
         (
             "",
             "0 embed f1 https://b.example/ header camera=() srcdoc\n0 embed f1 https://b.example/ at https://c.example/ header camera=()\n\
              0 embed f1 none header camera=()\n0 embed f1 none srcdoc\n0 embed f1 https://b.example/ sandbox \"\"\n\
              0 embed f1 https://b.example/ fullscreen\n",
-            "2 refused syntax\n3 refused syntax\n4 refused syntax\n5 refused syntax\n6 refused syntax\n7 refused syntax\n",
+            "2 refused syntax\n3 frame f2 doc d2 https://c.example\n4 frame f3 doc d3 https://a.example\n\
+             5 frame f4 doc d4 https://a.example\n6 frame f5 doc d5 opaque:d5\n7 frame f6 doc d6 https://b.example\n",
         ),
         (
             "",

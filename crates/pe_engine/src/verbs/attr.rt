@@ -39,7 +39,7 @@ impl Engine {
         value: &Option<Text<'_>>,
         steps: &mut Steps<L>,
     ) -> Result<Answer, Refusal>
-        ensures { (H : History) → StandsFor self.old H → IsAnswer self.new H (timed now (event.Attr frame name value.now)) result }
+        ensures { (H : History) → StandsFor self.old H → IsAnswer self.old self.new H (timed now (event.Attr frame name value.now)) result }
     {
         history_laws();
         let (_, h) = self.next_in(now, frame)?;

@@ -14,7 +14,7 @@ impl Engine {
     /// Closes the frame of this number (HTML Standard, "destroy a child navigable", "close a top-level
     /// traversable").
     pub(crate) fn close(&mut self, now: Millis, frame: u32) -> Result<Answer, Refusal>
-        ensures { (H : History) → StandsFor self.old H → IsAnswer self.new H (timed now (event.Close frame)) result }
+        ensures { (H : History) → StandsFor self.old H → IsAnswer self.old self.new H (timed now (event.Close frame)) result }
     {
         history_laws();
         let (_, h) = self.next_in(now, frame)?;

@@ -21,7 +21,7 @@ impl Engine {
         frame: u32,
         steps: &mut Steps<L>,
     ) -> Result<Answer, Refusal>
-        ensures { (H : History) → StandsFor self.old H → IsAnswer self.new H (timed now (event.History frame)) result }
+        ensures { (H : History) → StandsFor self.old H → IsAnswer self.old self.new H (timed now (event.History frame)) result }
     {
         history_laws();
         let (_, h) = self.next_in(now, frame)?;

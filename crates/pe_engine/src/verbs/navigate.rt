@@ -100,7 +100,7 @@ impl Engine {
         header: &Option<Text<'_>>,
         steps: &mut Steps<L>,
     ) -> Result<Answer, Refusal>
-        ensures { (H : History) → StandsFor self.old H → IsAnswer self.new H (timed now (event.Navigate frame url.now header.now)) result }
+        ensures { (H : History) → StandsFor self.old H → IsAnswer self.old self.new H (timed now (event.Navigate frame url.now header.now)) result }
     {
         history_laws();
         let (number, h) = self.next_in(now, frame)?;

@@ -104,7 +104,7 @@ impl Engine {
         url: &Text<'_>,
         header: &Option<Text<'_>>,
     ) -> Result<Answer, Refusal>
-        ensures { (H : History) → StandsFor self.old H → IsAnswer self.new H (timed now (event.OpenPage url.now header.now)) result }
+        ensures { (H : History) → StandsFor self.old H → IsAnswer self.old self.new H (timed now (event.OpenPage url.now header.now)) result }
     {
         history_laws();
         let number = self.next(now)?;
@@ -225,7 +225,7 @@ impl Engine {
         steps: &mut Steps<L>,
     ) -> Result<Answer, Refusal>
         ensures { (H : History) → StandsFor self.old H
-            → IsAnswer self.new H (timed now (event.Embed parent src.now place.now allow.now sandbox.now fullscreen srcdoc header.now)) result }
+            → IsAnswer self.old self.new H (timed now (event.Embed parent src.now place.now allow.now sandbox.now fullscreen srcdoc header.now)) result }
     {
         history_laws();
         let found = match self.embedding(now, parent, src, place, steps) {

@@ -95,7 +95,7 @@ impl Engine {
         name: &[u8],
         steps: &mut Steps<L>,
     ) -> Result<Answer, Refusal>
-        ensures { (H : History) → StandsFor self.old H → IsAnswer self.new H (timed now (event.PolicyOf frame name.now)) result }
+        ensures { (H : History) → StandsFor self.old H → IsAnswer self.old self.new H (timed now (event.PolicyOf frame name.now)) result }
     {
         history_laws();
         let (_, h) = self.next_in(now, frame)?;
@@ -115,7 +115,7 @@ impl Engine {
         frame: u32,
         steps: &mut Steps<L>,
     ) -> Result<Answer, Refusal>
-        ensures { (H : History) → StandsFor self.old H → IsAnswer self.new H (timed now (event.Features frame)) result }
+        ensures { (H : History) → StandsFor self.old H → IsAnswer self.old self.new H (timed now (event.Features frame)) result }
     {
         history_laws();
         let (_, h) = self.next_in(now, frame)?;

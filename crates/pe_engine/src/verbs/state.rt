@@ -36,7 +36,7 @@ impl Engine {
         frame: u32,
         steps: &mut Steps<L>,
     ) -> Result<Answer, Refusal>
-        ensures { (H : History) → StandsFor self.old H → IsAnswer self.new H (timed now (event.Ask frame)) result }
+        ensures { (H : History) → StandsFor self.old H → IsAnswer self.old self.new H (timed now (event.Ask frame)) result }
     {
         history_laws();
         let (_, h) = self.next_in(now, frame)?;
@@ -47,7 +47,7 @@ impl Engine {
 
     /// Time goes on.
     pub(crate) fn tick(&mut self, now: Millis) -> Result<Answer, Refusal>
-        ensures { (H : History) → StandsFor self.old H → IsAnswer self.new H (timed now event.Tick) result }
+        ensures { (H : History) → StandsFor self.old H → IsAnswer self.old self.new H (timed now event.Tick) result }
     {
         history_laws();
         self.next(now)?;

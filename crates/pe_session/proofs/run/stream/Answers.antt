@@ -11,27 +11,27 @@ loop-count-init g c = record {
   source_kept = refl;
   sink_kept = refl;
   within = omega arith;
-  went = ([], Consumes-nil _, refl, λ duration. rw (nothing-yet duration) (Appends-nil _), c.requires.starts);
+  went = ([], Consumes-nil _, refl, rw (nothing-yet c.args.session.now.engine.duration) (Appends-nil _), c.requires.starts);
 }
 
 pub take-requires-clause-open : goal.take-requires-clause-open
-take-requires-clause-open g c = let (taken, given, total, wrote, at) = c.loop-count.invariant.went in (at 0).open_still
+take-requires-clause-open g c = let (taken, given, total, wrote, at) = c.loop-count.invariant.went in at.open_still
 
 pub take-requires-clause-room : goal.take-requires-clause-room
 take-requires-clause-room g c =
     let (taken, given, total, wrote, at) = c.loop-count.invariant.went in
-    omega (arith, number-small 0 _ taken (at 0), length-take (c.args.limit - c.loop-count.total) c.read.new.room, c.loop-count.invariant.within, c.requires.limit)
+    omega (arith, number-small c.args.session.now.engine.duration _ taken at, length-take (c.args.limit - c.loop-count.total) c.read.new.room, c.loop-count.invariant.within, c.requires.limit)
 
 pub take-requires-in-loop-count-clause-open : goal.take-requires-in-loop-count-clause-open
-take-requires-in-loop-count-clause-open g c = let (taken, given, total, wrote, at) = c.loop-count.invariant.went in (at 0).open_still
+take-requires-in-loop-count-clause-open g c = let (taken, given, total, wrote, at) = c.loop-count.invariant.went in at.open_still
 
 pub take-requires-in-loop-count-clause-room : goal.take-requires-in-loop-count-clause-room
 take-requires-in-loop-count-clause-room g c =
     let (taken, given, total, wrote, at) = c.loop-count.invariant.went in
-    omega (arith, number-small 0 _ taken (at 0), length-take c.in-Ok.count c.read.new.room, c.loop-count.invariant.within, c.requires.limit, c.if-count-spare.false)
+    omega (arith, number-small c.args.session.now.engine.duration _ taken at, length-take c.in-Ok.count c.read.new.room, c.loop-count.invariant.within, c.requires.limit, c.if-count-spare.false)
 
 pub end-requires-clause-open : goal.end-requires-clause-open
-end-requires-clause-open g c = let (taken, given, total, wrote, at) = c.loop-count.invariant.went in (at 0).open_still
+end-requires-clause-open g c = let (taken, given, total, wrote, at) = c.loop-count.invariant.went in at.open_still
 
 pub loop-count-preserved : goal.loop-count-preserved
 loop-count-preserved g c =
@@ -47,15 +47,16 @@ loop-count-preserved g c =
         taken ++ take count room,
         Consumes-trans _ _ _ taken _ given c.in-Ok.ensures.bytes.0,
         omega (arith, total, got, length-append taken (take count room)),
-        λ duration. let (after, more) = c.in-Ok-take-2.ensures.ok duration taken (at duration) in let (text, adds, appended) = more in rw adds (Appends-trans _ _ _ _ _ (wrote duration) appended),
-        λ duration. (c.in-Ok-take-2.ensures.ok duration taken (at duration)).0,
+        let (after, more) = c.in-Ok-take-2.ensures.ok c.args.session.now.engine.duration taken at in let (text, adds, appended) = more in rw adds (Appends-trans _ _ _ _ _ wrote appended),
+        (c.in-Ok-take-2.ensures.ok c.args.session.now.engine.duration taken at).0,
       );
     }
 
 pub returns-in-Ok-take-clause-text : goal.returns-in-Ok-take-clause-text
-returns-in-Ok-take-clause-text g c = λ duration.
+returns-in-Ok-take-clause-text g c =
+    let duration = c.args.session.now.engine.duration in
     let (taken, given, total, wrote, at) = c.loop-count.invariant.went in
-    let (after, more) = c.in-Ok-take.ensures.ok duration taken (at duration) in
+    let (after, more) = c.in-Ok-take.ensures.ok duration taken at in
     let (text, adds, appended) = more in
     let room = c.read.new.room in
     let count = c.in-Ok.count in
@@ -65,107 +66,115 @@ returns-in-Ok-take-clause-text g c = λ duration.
       taken ++ take count room,
       built_ended_text duration taken ++ text,
       Consumes-trans _ _ _ taken _ given c.in-Ok.ensures.bytes.0,
-      Appends-trans _ _ _ _ _ (wrote duration) appended,
+      Appends-trans _ _ _ _ _ wrote appended,
       record { over = over; text = sym (ap (built_ended_text duration) (up-to-limit c.args.limit count c.loop-count.total taken room total c.loop-count.invariant.within past) ∙ adds) },
     )
 
 pub returns-in-Err-Memory-clause-text : goal.returns-in-Err-Memory-clause-text
-returns-in-Err-Memory-clause-text g c = λ duration.
+returns-in-Err-Memory-clause-text g c =
+    let duration = c.args.session.now.engine.duration in
     let (taken, given, total, wrote, at) = c.loop-count.invariant.went in
     let same = c.in-Err-Memory.ensures.memory (cc c.in-Err-Memory.field-0-is) in
     let few : length (take c.in-Ok.count c.read.new.room) ≤ 65536 = omega (arith, length-take c.in-Ok.count c.read.new.room, c.requires.few, c.read.auto.room, c.loop-count.auto.room) in (
       taken ++ take c.in-Ok.count c.read.new.room,
       built_ended_text duration taken,
       Consumes-trans _ _ _ taken _ given c.in-Ok.ensures.bytes.0,
-      rw same (wrote duration),
+      rw same wrote,
       cut-before-piece (record { ended = c.ended_lines_stay.ensures.ended; all = c.ended_lines_stay.ensures.all }) duration taken (take c.in-Ok.count c.read.new.room) _ few,
     )
 
 pub returns-in-Err-Write-clause-text : goal.returns-in-Err-Write-clause-text
-returns-in-Err-Write-clause-text g c = λ duration.
+returns-in-Err-Write-clause-text g c =
+    let duration = c.args.session.now.engine.duration in
     let (taken, given, total, wrote, at) = c.loop-count.invariant.went in
     let (rose, each) = c.in-Err-Write.ensures.write (cc c.in-Err-Write.field-0-is) in
-    let (text, rest, adds, appended) = each duration taken (at duration) in
+    let (text, rest, adds, appended) = each duration taken at in
     let few : length (take c.in-Ok.count c.read.new.room) ≤ 65536 = omega (arith, length-take c.in-Ok.count c.read.new.room, c.requires.few, c.read.auto.room, c.loop-count.auto.room) in
     let past : c.args.limit - c.loop-count.total ≤ c.in-Ok.count = omega (arith, c.if-count-spare.true) in (
       taken ++ take c.in-Ok.count c.read.new.room,
       built_ended_text duration taken ++ text,
       Consumes-trans _ _ _ taken _ given c.in-Ok.ensures.bytes.0,
-      Appends-trans _ _ _ _ _ (wrote duration) appended,
+      Appends-trans _ _ _ _ _ wrote appended,
       cut-in-front (record { ended = c.ended_lines_stay.ensures.ended; all = c.ended_lines_stay.ensures.all }) duration _ _ taken c.read.new.room text rest _ past adds few,
     )
 
 pub returns-in-Err-Memory-take-clause-text : goal.returns-in-Err-Memory-take-clause-text
-returns-in-Err-Memory-take-clause-text g c = λ duration.
+returns-in-Err-Memory-take-clause-text g c =
+    let duration = c.args.session.now.engine.duration in
     let (taken, given, total, wrote, at) = c.loop-count.invariant.went in
     let same = c.in-Err-Memory-take.ensures.memory (cc c.in-Err-Memory-take.field-0-is) in
     let few : length (take c.in-Ok.count c.read.new.room) ≤ 65536 = omega (arith, length-take c.in-Ok.count c.read.new.room, c.requires.few, c.read.auto.room, c.loop-count.auto.room) in (
       taken ++ take c.in-Ok.count c.read.new.room,
       built_ended_text duration taken,
       Consumes-trans _ _ _ taken _ given c.in-Ok.ensures.bytes.0,
-      rw same (wrote duration),
+      rw same wrote,
       cut-before-piece (record { ended = c.ended_lines_stay.ensures.ended; all = c.ended_lines_stay.ensures.all }) duration taken (take c.in-Ok.count c.read.new.room) _ few,
     )
 
 pub returns-in-Err-Write-take-clause-text : goal.returns-in-Err-Write-take-clause-text
-returns-in-Err-Write-take-clause-text g c = λ duration.
+returns-in-Err-Write-take-clause-text g c =
+    let duration = c.args.session.now.engine.duration in
     let (taken, given, total, wrote, at) = c.loop-count.invariant.went in
     let (rose, each) = c.in-Err-Write-take.ensures.write (cc c.in-Err-Write-take.field-0-is) in
-    let (text, rest, adds, appended) = each duration taken (at duration) in
+    let (text, rest, adds, appended) = each duration taken at in
     let few : length (take c.in-Ok.count c.read.new.room) ≤ 65536 = omega (arith, length-take c.in-Ok.count c.read.new.room, c.requires.few, c.read.auto.room, c.loop-count.auto.room) in (
       taken ++ take c.in-Ok.count c.read.new.room,
       built_ended_text duration taken ++ text,
       Consumes-trans _ _ _ taken _ given c.in-Ok.ensures.bytes.0,
-      Appends-trans _ _ _ _ _ (wrote duration) appended,
+      Appends-trans _ _ _ _ _ wrote appended,
       cut-in-front (record { ended = c.ended_lines_stay.ensures.ended; all = c.ended_lines_stay.ensures.all }) duration c.in-Ok.count _ taken c.read.new.room text rest _ (omega arith) adds few,
     )
 
 pub returns-in-Err-Memory-end-clause-text : goal.returns-in-Err-Memory-end-clause-text
-returns-in-Err-Memory-end-clause-text g c = λ duration.
+returns-in-Err-Memory-end-clause-text g c =
+    let duration = c.args.session.now.engine.duration in
     let (taken, given, total, wrote, at) = c.loop-count.invariant.went in
     let same = c.in-Err-Memory-end.ensures.memory (cc c.in-Err-Memory-end.field-0-is) in (
       taken,
       built_ended_text duration taken,
       subst (Consumes _ _) (none-given taken c.read.new.room c.in-Ok.count c.if-count-eq0.true) (Consumes-trans _ _ _ taken _ given c.in-Ok.ensures.bytes.0),
-      rw same (wrote duration),
+      rw same wrote,
       cut-now (record { ended = c.ended_lines_stay.ensures.ended; all = c.ended_lines_stay.ensures.all }) duration taken _,
     )
 
 pub returns-in-Err-Write-end-clause-text : goal.returns-in-Err-Write-end-clause-text
-returns-in-Err-Write-end-clause-text g c = λ duration.
+returns-in-Err-Write-end-clause-text g c =
+    let duration = c.args.session.now.engine.duration in
     let (taken, given, total, wrote, at) = c.loop-count.invariant.went in
     let (rose, each) = c.in-Err-Write-end.ensures.write (cc c.in-Err-Write-end.field-0-is) in
-    let (text, rest, adds, appended) = each duration taken (at duration) in
+    let (text, rest, adds, appended) = each duration taken at in
     let ended = c.in-Ok.ensures.bytes.1 c.if-count-eq0.true (omega (arith, c.requires.some, c.read.auto.room, c.loop-count.auto.room)) in (
       taken,
       built_ended_text duration taken ++ text,
       subst (Consumes _ _) (none-given taken c.read.new.room c.in-Ok.count c.if-count-eq0.true) (Consumes-trans _ _ _ taken _ given c.in-Ok.ensures.bytes.0),
-      Appends-trans _ _ _ _ _ (wrote duration) appended,
+      Appends-trans _ _ _ _ _ wrote appended,
       cut-in-last (record { ended = c.ended_lines_stay.ensures.ended; all = c.ended_lines_stay.ensures.all }) duration taken text rest _ ended adds,
     )
 
 pub returns-then-has_refused-clause-text : goal.returns-then-has_refused-clause-text
-returns-then-has_refused-clause-text g c = λ duration.
+returns-then-has_refused-clause-text g c =
+    let duration = c.args.session.now.engine.duration in
     let (taken, given, total, wrote, at) = c.loop-count.invariant.went in
-    let (flag, more) = c.in-Ok-end.ensures.ok duration taken (at duration) in
+    let (flag, more) = c.in-Ok-end.ensures.ok duration taken at in
     let (text, adds, appended) = more in
     let ended = c.in-Ok.ensures.bytes.1 c.if-count-eq0.true (omega (arith, c.requires.some, c.read.auto.room, c.loop-count.auto.room)) in (
       taken,
       built_ended_text duration taken ++ text,
       subst (Consumes _ _) (none-given taken c.read.new.room c.in-Ok.count c.if-count-eq0.true) (Consumes-trans _ _ _ taken _ given c.in-Ok.ensures.bytes.0),
-      Appends-trans _ _ _ _ _ (wrote duration) appended,
+      Appends-trans _ _ _ _ _ wrote appended,
       record { ended = ended; within = omega (arith, total, c.loop-count.invariant.within); text = sym adds; refused_is = sym flag ∙ sym (c.if-has_refused.ensures) },
     )
 
 pub returns-else-has_refused-clause-text : goal.returns-else-has_refused-clause-text
-returns-else-has_refused-clause-text g c = λ duration.
+returns-else-has_refused-clause-text g c =
+    let duration = c.args.session.now.engine.duration in
     let (taken, given, total, wrote, at) = c.loop-count.invariant.went in
-    let (flag, more) = c.in-Ok-end.ensures.ok duration taken (at duration) in
+    let (flag, more) = c.in-Ok-end.ensures.ok duration taken at in
     let (text, adds, appended) = more in
     let ended = c.in-Ok.ensures.bytes.1 c.if-count-eq0.true (omega (arith, c.requires.some, c.read.auto.room, c.loop-count.auto.room)) in (
       taken,
       built_ended_text duration taken ++ text,
       subst (Consumes _ _) (none-given taken c.read.new.room c.in-Ok.count c.if-count-eq0.true) (Consumes-trans _ _ _ taken _ given c.in-Ok.ensures.bytes.0),
-      Appends-trans _ _ _ _ _ (wrote duration) appended,
+      Appends-trans _ _ _ _ _ wrote appended,
       record { ended = ended; within = omega (arith, total, c.loop-count.invariant.within); text = sym adds; refused_is = sym flag ∙ sym (c.if-has_refused.ensures) },
     )

@@ -11,8 +11,8 @@ invariant-loop-count g l = record {
   within : l.total ≤ l.limit;
   went : (taken : List ℕ) × Consumes (g.S.Source.left l.fn.source) (g.S.Source.left l.source) taken
       × (l.total ≡ length taken)
-      × ((duration : ℕ) → Appends (g.K.Sink.written l.fn.sink) (g.K.Sink.written l.sink) (built_ended_text duration taken))
-      × ((duration : ℕ) → HasTaken duration l.session taken);
+      × Appends (g.K.Sink.written l.fn.sink) (g.K.Sink.written l.sink) (built_ended_text l.fn.session.engine.duration taken)
+      × HasTaken l.fn.session.engine.duration l.session taken;
 }
 
 abbrev pub decreases-loop-count : goal.decreases-loop-count

@@ -21,7 +21,7 @@ returns-in-Err g c = λ H s.
     let e = c.args.self.now in
     let T = replied e.duration H in
     attribute-refused e H (timed c.args.now (event.Attr c.args.frame c.args.name c.args.value.now)) c.args.name c.args.value.now c.in-Err.refusal c.in-Err.ensures
-    (λ bad. c.in_ok-h.ensures.rest H _ s refl ∙ url-attr T c.args.now c.args.frame c.args.name c.args.value.now (sym (bad-value c.args.frame c.args.name c.args.value.now) ∙ bad)) s
+    (λ bad. c.in_ok-h.ensures.rest H _ s refl ∙ url-attr T c.args.now c.args.frame c.args.name c.args.value.now (sym (bad-value c.args.frame c.args.name c.args.value.now) ∙ bad))
 
 pub returns : goal.returns
 returns g c = λ H s.

@@ -12,10 +12,10 @@ use Rattle.pe_engine.proofs.VerbAnswers.{other-close, done-close}
 use Rattle.pe_engine.proofs.engine.Engine.close.Goals as goal
 
 pub returns-in_err-h : goal.returns-in_err-h
-returns-in_err-h c = λ H s. answer-for _ H _ _ c.from_residual.result c.from_residual.ensures.1 (c.in_err-h.ensures.cause H _ s refl) s
+returns-in_err-h c = λ H s. answer-for _ H _ _ c.from_residual.result c.from_residual.ensures.1 (c.in_err-h.ensures.cause H _ s refl)
 
 pub returns-in_err-note : goal.returns-in_err-note
-returns-in_err-note c = λ H s. answer-memory _ H _ c.from_residual-in_err-note.result c.from_residual-in_err-note.ensures.1
+returns-in_err-note c = λ H s. answer-memory _ _ H _ c.from_residual-in_err-note.result c.from_residual-in_err-note.ensures.1
 
 pub returns : goal.returns
 returns c = λ H s.

@@ -14,7 +14,7 @@ use Rattle.pe_engine.proofs.engine.Engine.embed.Goals as goal
 pub returns-in-Err : goal.returns-in-Err
 returns-in-Err g c = λ H s.
     checked-refused Embedding c.args.self.now H (timed c.args.now (event.Embed c.args.parent c.args.src.now c.args.place.now c.args.allow.now c.args.sandbox.now c.args.fullscreen c.args.srcdoc c.args.header.now)) c.in-Err.refusal
-    (c.in-Err.ensures.cause H c.args.allow.now c.args.sandbox.now c.args.header.now c.args.fullscreen c.args.srcdoc s) s
+    (c.in-Err.ensures.cause H c.args.allow.now c.args.sandbox.now c.args.header.now c.args.fullscreen c.args.srcdoc s)
 
 pub returns : goal.returns
 returns g c = λ H s.

@@ -21,7 +21,7 @@ returns-in-Err g c = λ H s.
     let e = c.args.self.now in
     let T = replied e.duration H in
     place-refused e H (timed c.args.now (event.Navigate c.args.frame c.args.url.now c.args.header.now)) c.as_slice.result.now c.in-Err.refusal c.in-Err.ensures
-    (λ none. c.in_ok-number.ensures.rest H _ s refl ∙ url-nav T c.args.now c.args.frame c.args.url.now c.args.header.now (sym (ap place_at c.as_slice.ensures) ∙ none)) s
+    (λ none. c.in_ok-number.ensures.rest H _ s refl ∙ url-nav T c.args.now c.args.frame c.args.url.now c.args.header.now (sym (ap place_at c.as_slice.ensures) ∙ none))
 
 pub returns : goal.returns
 returns g c = λ H s.

@@ -15,7 +15,7 @@ use Rattle.pe_engine.proofs.VerbAnswers.{url-open, pages-open, other-open, pages
 use Rattle.pe_engine.proofs.engine.Engine.open.Goals as goal
 
 pub returns-in_err-number : goal.returns-in_err-number
-returns-in_err-number c = λ H s. answer-for _ H _ _ c.from_residual.result c.from_residual.ensures.1 (first-time _ _ _ _ (c.in_err-number.ensures.cause H s)) s
+returns-in_err-number c = λ H s. answer-for _ H _ _ c.from_residual.result c.from_residual.ensures.1 (first-time _ _ _ _ (c.in_err-number.ensures.cause H s))
 
 pub returns-in-Err : goal.returns-in-Err
 returns-in-Err c = λ H s.
@@ -23,7 +23,7 @@ returns-in-Err c = λ H s.
     let T = replied e.duration H in
     place-refused e H (timed c.args.now (event.OpenPage c.args.url.now c.args.header.now)) c.as_slice.result.now c.in-Err.refusal c.in-Err.ensures
     (λ none. then-other T c.args.now (event.OpenPage c.args.url.now c.args.header.now) (c.in_ok-number.ensures.none H s) (no-object T (event.OpenPage c.args.url.now c.args.header.now) refl)
-    ∙ url-open T c.args.now c.args.url.now c.args.header.now (sym (ap place_at c.as_slice.ensures) ∙ none)) s
+    ∙ url-open T c.args.now c.args.url.now c.args.header.now (sym (ap place_at c.as_slice.ensures) ∙ none))
 
 pub returns-then-pages-ge-PAGE_LIMIT : goal.returns-then-pages-ge-PAGE_LIMIT
 returns-then-pages-ge-PAGE_LIMIT c = λ H s.
@@ -36,7 +36,7 @@ returns-then-pages-ge-PAGE_LIMIT c = λ H s.
     record {
       first = then-other T c.args.now (event.OpenPage c.args.url.now c.args.header.now) (c.in_ok-number.ensures.none H s) (no-object T (event.OpenPage c.args.url.now c.args.header.now) refl)
           ∙ pages-open T c.args.now c.args.url.now c.args.header.now c.in-Ok.place (sym (ap place_at c.as_slice.ensures) ∙ c.in-Ok.ensures) full;
-      stands = s;
+      kept = refl;
     }
 
 pub returns : goal.returns

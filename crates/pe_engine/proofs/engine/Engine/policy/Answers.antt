@@ -7,7 +7,7 @@ use Rattle.pe_engine.proofs.VerbAnswers.{feature-policy, other-policy, policy-an
 use Rattle.pe_engine.proofs.engine.Engine.policy.Goals as goal
 
 pub returns-in_default : goal.returns-in_default
-returns-in_default g c = λ H s. record { first = c.in_ok-h.ensures.rest H _ s refl ∙ feature-policy _ _ _ _ c.in_default.ensures.none; stands = s }
+returns-in_default g c = λ H s. record { first = c.in_ok-h.ensures.rest H _ s refl ∙ feature-policy _ _ _ _ c.in_default.ensures.none; kept = refl }
 
 pub returns : goal.returns
 returns g c = λ H s.

@@ -10,7 +10,7 @@ use Rattle.pe_engine.proofs.VerbAnswers.{other-tick, done-tick}
 use Rattle.pe_engine.proofs.engine.Engine.tick.Goals as goal
 
 pub returns-in_err-next : goal.returns-in_err-next
-returns-in_err-next c = λ H s. answer-for _ H _ _ c.from_residual.result c.from_residual.ensures.1 (first-time _ _ _ _ (c.in_err-next.ensures.cause H s)) s
+returns-in_err-next c = λ H s. answer-for _ H _ _ c.from_residual.result c.from_residual.ensures.1 (first-time _ _ _ _ (c.in_err-next.ensures.cause H s))
 
 pub returns : goal.returns
 returns c = λ H s.

@@ -11,8 +11,8 @@ invariant-loop-line l = record {
   room : l.self.number + length l.self.cutter.bytes ≤ l.fn.self.number + length l.fn.self.cutter.bytes;
   went : (done : List (Option (List ℕ))) × Cuts l.fn.self.cutter.bytes done l.self.cutter.bytes
       × (l.self.number ≡ l.fn.self.number + length done)
-      × ((duration : ℕ) (H : History) → Stands duration l.fn.self.events H
-      → HasJudged duration l.self.events l.fn.self.number H l.fn.self.out.items l.self.out.items l.fn.self.refused l.self.refused done);
+      × ((duration : ℕ) (H : History) → Stands duration l.fn.self.engine H
+      → HasJudged duration l.self.engine l.fn.self.number H l.fn.self.out.items l.self.out.items l.fn.self.refused l.self.refused done);
 }
 
 abbrev pub decreases-loop-line : goal.decreases-loop-line
