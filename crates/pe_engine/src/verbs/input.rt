@@ -31,9 +31,7 @@ impl Engine {
             self.note(now, Made::Nothing)?;
             return Ok(Answer::Ignored);
         }
-        let Ok(count) = notify(&mut self.frames, h, now, steps) else {
-            return Err(Refusal::Memory);
-        };
+        let count = notify(&mut self.frames, h, now, steps).unwrap();
         self.note(now, Made::Nothing)?;
         Ok(Answer::Activated { count })
     }
