@@ -11,6 +11,7 @@ pub mod Answering
 pub mod Starting
 pub mod VerbAnswers
 pub mod InPlace
+pub mod Activating
 pub mod Opened
 pub mod NoChanges
 pub mod Embedded

@@ -1,8 +1,9 @@
 -- What each verb is answered, by what the engine keeps of the document.
-use Rattle.std.proofs.Common.{◌≡◌, ℕ, Bool, true, false, not, ◌||◌, nat_le, List, length, map, Option, Some, None, Err, is_some, is_none, option_map, refl, sym, ◌∙◌, ap, subst}
+use Rattle.std.proofs.Common.{◌≡◌, ℕ, Bool, true, false, not, ◌||◌, nat_le, List, length, map, Option, Some, None, Err, is_some, is_none, option_map, refl, sym, ◌∙◌, ap, subst, cond}
 use Rattle.pe_base.specs.declared.limits.TheConstants.{PAGE_LIMIT, DEPTH_LIMIT, FRAME_LIMIT}
 use Rattle.pe_base.specs.declared.denial.Denial.{Denial}
-use Rattle.pe_base.specs.Activation.{is_sticky, is_transient, is_history_active}
+use Rattle.pe_base.specs.declared.input.InputKind.{InputKind}
+use Rattle.pe_base.specs.Activation.{triggers, is_sticky, is_transient, is_history_active}
 use Rattle.pe_features.specs.declared.feature.Feature.{Feature}
 use Rattle.pe_features.specs.Features.{feature_named, all_features, default_of}
 use Rattle.pe_arena.specs.declared.handle.Handle.{Handle}
@@ -23,6 +24,7 @@ use Rattle.pe_rules.specs.Embedders.{depth}
 use Rattle.pe_rules.specs.Current.{document_in}
 use Rattle.pe_rules.specs.Origins.{place_or_none}
 use Rattle.pe_rules.specs.Denials.{why_denied, is_allowed}
+use Rattle.pe_rules.specs.Activation.{activated_count}
 use Rattle.pe_rules.specs.Settings.{setting_named, setting_by}
 use Rattle.pe_rules.specs.Causes.{cause_of, lacks_default, is_no_url, has_bad_url, has_bad_feature, has_bad_call, has_bad_capability, names_other_page, count_in_page, live_frames, live_pages, exceeds_pages, exceeds_depth, exceeds_frames, exceeds_statuses, exceeds_pending, exceeds_store}
 use Rattle.pe_rules.specs.Replies.{answer_of, answer_of_denial, answer_of_history_action, step_answer, replied}
@@ -57,6 +59,10 @@ other-state T now f = refl
 pub other-history : (T : RepliedHistory) (now f : ℕ) → other_cause T now (event.History f) ≡ None
 unfolding other_cause has_bad_url has_bad_feature has_bad_call has_bad_capability names_other_page exceeds_pages exceeds_depth exceeds_frames exceeds_statuses exceeds_pending exceeds_store setting_named setting_by
 other-history T now f = refl
+
+pub other-input : (T : RepliedHistory) (now f : ℕ) (kind : InputKind) → other_cause T now (event.Input f kind) ≡ None
+unfolding other_cause has_bad_url has_bad_feature has_bad_call has_bad_capability names_other_page exceeds_pages exceeds_depth exceeds_frames exceeds_statuses exceeds_pending exceeds_store setting_named setting_by
+other-input T now f kind = refl
 
 pub other-features : (T : RepliedHistory) (now f : ℕ) → other_cause T now (event.Features f) ≡ None
 unfolding other_cause has_bad_url has_bad_feature has_bad_call has_bad_capability names_other_page exceeds_pages exceeds_depth exceeds_frames exceeds_statuses exceeds_pending exceeds_store setting_named setting_by
@@ -122,6 +128,15 @@ done-attr duration T now f name value = refl
 pub done-tick : (duration : ℕ) (T : RepliedHistory) (now : ℕ) → answer_of duration T now event.Tick ≡ answer.Done
 unfolding answer_of
 done-tick duration T now = refl
+
+-- an input of a kind that does not trigger, and of one that does
+pub ignored-input : (duration : ℕ) (T : RepliedHistory) (now f : ℕ) (kind : InputKind) → triggers kind ≡ false → answer_of duration T now (event.Input f kind) ≡ answer.Ignored
+unfolding answer_of
+ignored-input duration T now f kind h = ap (λ b. cond b (answer.Activated (activated_count (event.Input f kind) T)) answer.Ignored) h
+
+pub activated-input : (duration : ℕ) (T : RepliedHistory) (now f : ℕ) (kind : InputKind) → triggers kind ≡ true → answer_of duration T now (event.Input f kind) ≡ answer.Activated (activated_count (event.Input f kind) T)
+unfolding answer_of
+activated-input duration T now f kind h = ap (λ b. cond b (answer.Activated (activated_count (event.Input f kind) T)) answer.Ignored) h
 
 module _ (laws : HistoryLaws) where
   pub state-answer : (duration : ℕ) (T : RepliedHistory) (now f : ℕ) (x : Row) → IsShown T f x → answer_of duration T now (event.Ask f) ≡ answer.Activity (is_sticky x.stamp) (is_transient duration now x.stamp)

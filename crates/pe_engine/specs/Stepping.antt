@@ -23,6 +23,7 @@ is_answered (event.Embed parent src place allow sandbox fullscreen srcdoc header
 is_answered (event.Navigate frame url header) = true
 is_answered (event.Attr frame name value) = true
 is_answered (event.Close frame) = true
+is_answered (event.Input frame kind) = true
 is_answered (event.Ask frame) = true
 is_answered (event.History frame) = true
 is_answered (event.PolicyOf frame feature) = true

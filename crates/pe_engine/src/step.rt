@@ -56,6 +56,7 @@ impl Engine {
             }
             Event::Attr { frame, name, value } => self.attr(now, *frame, *name, value, steps),
             Event::Close { frame } => self.close(now, *frame),
+            Event::Input { frame, kind } => self.input(now, *frame, *kind, steps),
             Event::Ask { frame } => self.state(now, *frame, steps),
             Event::History { frame } => self.history(now, *frame, steps),
             Event::PolicyOf { frame, feature } => self.policy(
@@ -66,8 +67,7 @@ impl Engine {
             ),
             Event::Features { frame } => self.features(now, *frame, steps),
             Event::Tick => self.tick(now),
-            Event::Input { .. }
-            | Event::UseCall { .. }
+            Event::UseCall { .. }
             | Event::Query { .. }
             | Event::DropStatus { .. }
             | Event::Request { .. }

@@ -2,6 +2,7 @@
 mod attr;
 mod close;
 mod history;
+mod input;
 mod navigate;
 mod open;
 mod policy;

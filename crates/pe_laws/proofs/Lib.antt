@@ -38,3 +38,4 @@ pub mod PendingSteps
 pub mod Messages
 pub mod Delegated
 pub mod AttributesBeyond
+pub mod Activated

@@ -18,6 +18,7 @@ is_built_event (event.Embed parent src place allow sandbox fullscreen srcdoc hea
 is_built_event (event.Navigate frame url header) = true
 is_built_event (event.Attr frame name value) = true
 is_built_event (event.Close frame) = true
+is_built_event (event.Input frame kind) = true
 is_built_event (event.Ask frame) = true
 is_built_event (event.History frame) = true
 is_built_event (event.PolicyOf frame feature) = true

@@ -1,5 +1,6 @@
 use Rattle.pe_laws.proofs.Stamps.{activates-current, activates-within, stamp-start, stamp-step, stamp-newest, stamp-beyond, stamp-unmade, sticky-by-stamp, transient-by-stamp}
 use Rattle.pe_laws.proofs.StampTimes.{stamp-time}
+use Rattle.pe_laws.proofs.Activated.{activated-in-frames}
 use Rattle.pe_laws.proofs.activation.activation_laws.Goals as goal
 
 pub returns : goal.returns
@@ -14,4 +15,5 @@ returns c = record {
   sticky_by_stamp = sticky-by-stamp;
   transient_by_stamp = transient-by-stamp;
   stamp_time = stamp-time;
+  activated_in_frames = activated-in-frames;
 }
