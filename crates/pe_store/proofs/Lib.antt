@@ -1,3 +1,4 @@
+pub mod Results
 pub mod SamePair
 pub mod SameKey
 pub mod NumberChanges
@@ -6,3 +7,4 @@ pub mod Sorted
 pub mod Numbered
 pub mod RowChanges
 pub mod Lists
+pub mod Dismissals

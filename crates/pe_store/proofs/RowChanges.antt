@@ -1,5 +1,5 @@
 -- What the rows of a store say of the list of its entries, and what a change of one row does.
-use Rattle.std.proofs.Common.{◌≡◌, ℕ, ◌+◌, ◌<◌, Bool, true, false, ◌&&◌, ◌||◌, not, cond, List, [], ◌∷◌, filter, Option, Some, None, refl, sym, ◌∙◌, ap, subst, arith, true≢false, nat_lt, Result, Ok, Err, OnOk, OnErr, IfNone}
+use Rattle.std.proofs.Common.{◌≡◌, ℕ, ◌+◌, ◌<◌, Bool, true, false, ◌&&◌, ◌||◌, not, cond, List, [], ◌∷◌, filter, Option, Some, None, refl, sym, ◌∙◌, ap, subst, arith, true≢false, nat_lt}
 use Rattle.std.specs.Bool.{Decides}
 use Rattle.std.specs.List.{find, AllByRecursion}
 use Rattle.std.specs.List.Sorted.{IsStrictlySortedBy}
@@ -346,15 +346,3 @@ changed-to-none pairs q s new same none r = ap (λ (lists : List KeyNumbers). nu
     by_test : (b : Bool) → is_same_pair q r ≡ b → number_of s r ≡ cond b None (number_of s r)
     by_test true h = ap (number_of s) (sym ((pairs q r).0 h)) ∙ none
     by_test false h = refl
-
-pub on-err : {T E P : Type 0} (r : Result T E) → P → OnErr r P
-on-err (Ok x) p = tt
-on-err (Err e) p = p
-
-pub on-ok : {T E P : Type 0} (r : Result T E) → P → OnOk r P
-on-ok (Ok x) p = p
-on-ok (Err e) p = tt
-
-pub if-none : {T P : Type 0} (r : Option T) → P → IfNone r P
-if-none None p = p
-if-none (Some x) p = tt

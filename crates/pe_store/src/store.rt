@@ -1,8 +1,8 @@
 //! The permission store.
-ghost use Rattle.std.specs.Prelude.{◌≡◌, ◌↔◌, ◌+◌, ◌<◌, ◌≤◌, [], None, Some, Err, IfOk, IsTrue, OnOk, OnErr, is_some, length, if◌then◌else◌};
+ghost use Rattle.std.specs.Prelude.{◌≡◌, ◌↔◌, ◌+◌, ◌<◌, ◌≤◌, true, false, ◌&&◌, [], None, Some, Ok, Err, IfOk, IsTrue, OnOk, OnErr, is_some, length, if◌then◌else◌};
 ghost use Rattle.std.specs.Option.{option_copied};
-ghost use Rattle.pe_base.specs.declared.limits.TheConstants.{STORE_LIMIT};
-ghost use Rattle.pe_store.specs.Entries.{dismissals_of, entry_of, put_entry, stored, without, IsFull};
+ghost use Rattle.pe_base.specs.declared.limits.TheConstants.{STORE_LIMIT, EMBARGO_DISMISSALS};
+ghost use Rattle.pe_store.specs.Entries.{dismissals_of, entry_of, put_entry, stored, without, IsFull, counts_over, counts, completes_embargo, embargo};
 ghost use Rattle.pe_store.specs.Pairs.{Pair, is_same_pair};
 
 use crate::entry::{Entry, StoreFault};
@@ -10,7 +10,7 @@ use crate::key::{Key, Life};
 use crate::law::same_pairs_are_one;
 use crate::numbers::PairNumbers;
 use crate::rows::Rows;
-use pe_base::{STORE_LIMIT, State, Steps};
+use pe_base::{EMBARGO_DISMISSALS, EMBARGO_SPAN, Millis, STORE_LIMIT, State, Steps};
 use pe_features::Feature;
 use std::alloc::{AllocError, Global};
 use std::marker::Model;
@@ -31,13 +31,13 @@ impl Model for Store {
     ghost use Rattle.std.specs.Prelude.{◌≤◌, length};
     ghost use Rattle.std.specs.Map.{values_of};
     ghost use Rattle.pe_base.specs.declared.limits.TheConstants.{STORE_LIMIT};
-    ghost use Rattle.pe_store.specs.Entries.{StoreValue};
+    ghost use Rattle.pe_store.specs.Entries.{StoreValue, AreBelowEmbargo};
 
     ghost Value = { StoreValue };
 
     ghost view = { λ s. record { entries = values_of s.rows; dismissals = s.dismissals } };
 
-    ghost invariant = { λ s. length s.rows ≤ STORE_LIMIT };
+    ghost invariant = { λ s. (length s.rows ≤ STORE_LIMIT) × AreBelowEmbargo s.dismissals };
 }
 
 impl Store {
@@ -75,10 +75,11 @@ impl Store {
     }
 
     /// How often a pair was dismissed since its last setting, or ever where it has had none.
-    pub fn dismissals(&self, feature: Feature, key: &Key) -> u64
-        ensures { result ≡ dismissals_of self.now (feature, key.now) }
+    pub fn dismissals(&self, feature: Feature, key: &Key) -> u32
+        ensures count { result ≡ dismissals_of self.now (feature, key.now) }
+        ensures few { result < EMBARGO_DISMISSALS }
     {
-        self.dismissals.number(feature, key).unwrap_or(0)
+        self.dismissals.number(feature, key).unwrap_or(0) as u32
     }
 
     /// Sets what is stored for a pair: in the place of its entry where it has one, else behind the entries of its
@@ -126,6 +127,38 @@ impl Store {
         }
     }
 
+    /// Counts a dismissal of a pair, where nothing or prompt is stored for it, and says whether it is an embargo: the
+    /// third since the pair's last setting sets it to denied for `EMBARGO_SPAN` from this time on, and the count starts
+    /// anew. Where the pair is granted or denied nothing is done.
+    /// `Full` where it is an embargo of a pair without an entry and there are as many entries as there may be; `Memory`
+    /// where memory wants. All is then as before.
+    pub fn dismissed(&mut self, feature: Feature, key: Key, now: Millis) -> Result<bool, StoreFault>
+        ensures ignored { counts self.old (feature, key) ≡ false → (result ≡ Ok false) × (self.new ≡ self.old) }
+        ensures embargo { IfOk result (λ is_embargo. is_embargo ≡ completes_embargo self.old (feature, key)) }
+        ensures list { OnOk result (self.new.entries ≡ if completes_embargo self.old (feature, key) then put_entry (embargo (feature, key) now) self.old.entries else self.old.entries) }
+        ensures found { OnOk result ((pair : Pair) → entry_of self.new.entries pair ≡ if completes_embargo self.old (feature, key) && is_same_pair (feature, key) pair then Some (embargo (feature, key) now) else entry_of self.old.entries pair) }
+        ensures dismissals { OnOk result ((pair : Pair) → dismissals_of self.new pair ≡ if counts self.old (feature, key) && is_same_pair (feature, key) pair then (if completes_embargo self.old (feature, key) then 0 else dismissals_of self.old pair + 1) else dismissals_of self.old pair) }
+        ensures full { (result ≡ Err StoreFault.Full) ↔ ((completes_embargo self.old (feature, key) ≡ true) × IsFull self.old.entries (feature, key)) }
+        ensures err { OnErr result (self.new ≡ self.old) }
+    {
+        same_pairs_are_one();
+        if !counts_over(self.rows.get(feature, &key)) {
+            return Ok(false);
+        }
+        let count = self.dismissals(feature, &key) + 1;
+        if count >= EMBARGO_DISMISSALS {
+            let life = Life::Until(now.get() + EMBARGO_SPAN);
+            return match self.set(feature, key, State::Denied, life) {
+                Ok(()) => Ok(true),
+                Err(fault) => Err(fault),
+            };
+        }
+        if self.dismissals.put(feature, key, u64::from(count)).is_err() {
+            return Err(StoreFault::Memory);
+        }
+        Ok(false)
+    }
+
     /// Takes the entry of a pair out, and says whether there was one. The other entries keep their order.
     pub fn clear(&mut self, feature: Feature, key: &Key) -> bool
         ensures list { self.new.entries ≡ without (feature, key.now) self.old.entries }
@@ -153,6 +186,20 @@ fn new_entry(feature: Feature, key: &Key, state: State, life: Life) -> Result<En
         state,
         life,
     })
+}
+
+// Whether a dismissal of a pair with this entry counts.
+fn counts_over(found: Option<&Entry>) -> bool
+    ensures { result ≡ counts_over (option_copied found.entry) }
+{
+    match found {
+        Some(entry) => match entry.state {
+            State::Prompt => true,
+            State::Granted => false,
+            State::Denied => false,
+        },
+        None => true,
+    }
 }
 
 // Whether there is an entry, which is let go.
