@@ -8,3 +8,4 @@ pub mod Numbered
 pub mod RowChanges
 pub mod Lists
 pub mod Dismissals
+pub mod DueFirst

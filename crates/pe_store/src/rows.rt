@@ -1,9 +1,10 @@
 //! Entries at their places, with the numbers of their pairs and what ends them.
-ghost use Rattle.std.specs.Prelude.{◌≡◌, ◌+◌, [], None, Some, IfSome, IfErr, IfNone, OnOk, OnErr, length, if◌then◌else◌};
+ghost use Rattle.std.specs.Prelude.{◌≡◌, ℕ, ◌+◌, [], None, Some, slice_get, IfSome, IfErr, IfNone, OnOk, OnErr, length, if◌then◌else◌};
 ghost use Rattle.std.specs.BTreeMap.{insert_entry, is_at};
 ghost use Rattle.std.specs.List.Sorted.{IsStrictlySortedBy};
 ghost use Rattle.std.specs.Map.{keys_of, values_of};
 ghost use Rattle.std.specs.Option.{option_copied};
+ghost use Rattle.pe_store.specs.Due.{HasNoEnd, IsFirstEnd};
 ghost use Rattle.pe_store.specs.Entries.{pair_of, entry_of, put_entry, without};
 ghost use Rattle.pe_store.specs.Numbers.{number_of, IsChangedFor};
 ghost use Rattle.pe_store.specs.declared.entry.Entry.{Entry};
@@ -14,7 +15,7 @@ use crate::entry::Entry;
 use crate::key::Key;
 use crate::law::same_pairs_are_one;
 use crate::numbers::PairNumbers;
-use crate::place::{Endings, Place, drop_end, ends_alike, put_end};
+use crate::place::{Ending, Endings, Place, drop_end, ends_alike, put_end};
 use pe_features::Feature;
 use std::alloc::{AllocError, Global};
 use std::collections::BTreeMap;
@@ -224,6 +225,33 @@ impl Rows {
                 Err(AllocError)
             }
         }
+    }
+
+    // The first moment at which an entry ends, with the place of the first entry that ends then.
+    pub(crate) fn first_end(&self) -> Option<Ending>
+        ensures none { IfNone result (HasNoEnd self.now) }
+        ensures some { IfSome result (IsFirstEnd self.now) }
+    {
+        match self.endings.moments.first() {
+            Some(first) => Some(*first),
+            None => None,
+        }
+    }
+
+    // The entry that stands behind so many others.
+    pub(crate) fn nth(&self, index: usize) -> Option<&Entry>
+        ensures value { option_copied result ≡ slice_get (values_of self.now) index }
+        ensures own { IfSome result (λ e. entry_of (values_of self.now) (pair_of e.now) ≡ Some e.now) }
+    {
+        same_pairs_are_one();
+        self.map.values().nth(index)
+    }
+
+    // How many entries stand before a place.
+    pub(crate) fn index_of(&self, place: Place) -> usize
+        ensures { (i : ℕ) (e : Entry) → slice_get self.now i ≡ Some (place, e) → result ≡ i }
+    {
+        self.map.range(..place).count()
     }
 
     // Takes the entry at a place out.

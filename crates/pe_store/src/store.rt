@@ -1,8 +1,10 @@
 //! The permission store.
-ghost use Rattle.std.specs.Prelude.{◌≡◌, ◌↔◌, ◌+◌, ◌<◌, ◌≤◌, true, false, ◌&&◌, [], None, Some, Ok, Err, IfOk, IsTrue, OnOk, OnErr, is_some, length, if◌then◌else◌};
+ghost use Rattle.std.specs.Prelude.{◌≡◌, ◌↔◌, ◌+◌, ◌<◌, ◌≤◌, true, false, ◌&&◌, [], None, Some, Ok, Err, IfOk, IfSome, IfNone, IsTrue, OnOk, OnErr, is_some, length, slice_get, if◌then◌else◌};
 ghost use Rattle.std.specs.Option.{option_copied};
 ghost use Rattle.pe_base.specs.declared.limits.TheConstants.{STORE_LIMIT, EMBARGO_DISMISSALS};
-ghost use Rattle.pe_store.specs.Entries.{dismissals_of, entry_of, put_entry, stored, without, IsFull, counts_over, counts, completes_embargo, embargo};
+ghost use Rattle.pe_store.specs.declared.key.Life.TheVariants as life;
+ghost use Rattle.pe_store.specs.Due.{IsDue, IsDueEntry};
+ghost use Rattle.pe_store.specs.Entries.{dismissals_of, pair_of, entry_of, put_entry, stored, without, IsFull, counts_over, counts, completes_embargo, embargo};
 ghost use Rattle.pe_store.specs.Pairs.{Pair, is_same_pair};
 
 use crate::entry::{Entry, StoreFault};
@@ -58,6 +60,15 @@ impl Store {
         ensures limit { result ≤ STORE_LIMIT }
     {
         self.rows.len()
+    }
+
+    /// The entry at a place, counted from 0; None exactly from `len` on. Nothing is copied.
+    /// Unlike the other calls it costs as many steps as there are entries before that place.
+    pub fn entry_at(&self, place: usize) -> Option<&Entry>
+        ensures value { option_copied result ≡ slice_get self.now.entries place }
+        ensures own { IfSome result (λ e. entry_of self.now.entries (pair_of e.now) ≡ Some e.now) }
+    {
+        self.rows.nth(place)
     }
 
     /// The entry of a pair. Nothing is copied.
@@ -157,6 +168,41 @@ impl Store {
             return Err(StoreFault::Memory);
         }
         Ok(false)
+    }
+
+    /// The least moment up to this one at which an entry ends, with the least place that has it.
+    /// Unlike the other calls it costs as many steps as there are entries before that place.
+    pub fn due(&self, upto: u64) -> Option<(u64, usize)>
+        ensures { IsDue self.now.entries upto result }
+    {
+        let first = self.rows.first_end()?;
+        if first.by > upto {
+            return None;
+        }
+        Some((first.by, self.rows.index_of(first.place)))
+    }
+
+    /// Takes the entry out that is due first up to a moment, as `due` names it, and gives it with the moment at which
+    /// it ended. The other entries keep their order, and how often pairs were dismissed stays.
+    /// It costs a logarithm of the entries.
+    pub fn take_due(&mut self, upto: u64) -> Option<(u64, Entry)>
+        ensures none { IfNone result (IsDue self.old.entries upto None) }
+        ensures due { IfSome result (λ taken. IsDueEntry self.old.entries upto taken.0 taken.1) }
+        ensures ends { IfSome result (λ taken. taken.1.life ≡ life.Until taken.0) }
+        ensures own { IfSome result (λ taken. entry_of self.old.entries (pair_of taken.1) ≡ Some taken.1) }
+        ensures list { IfSome result (λ taken. self.new.entries ≡ without (pair_of taken.1) self.old.entries) }
+        ensures found { IfSome result (λ taken. (pair : Pair) → entry_of self.new.entries pair ≡ if is_same_pair (pair_of taken.1) pair then None else entry_of self.old.entries pair) }
+        ensures fewer { IfSome result (λ taken. length self.new.entries + 1 ≡ length self.old.entries) }
+        ensures unchanged { IfNone result (self.new ≡ self.old) }
+        ensures dismissals { self.new.dismissals ≡ self.old.dismissals }
+    {
+        same_pairs_are_one();
+        let first = self.rows.first_end()?;
+        if first.by > upto {
+            return None;
+        }
+        let entry = self.rows.take(first.place)?;
+        Some((first.by, entry))
     }
 
     /// Takes the entry of a pair out, and says whether there was one. The other entries keep their order.
