@@ -9,3 +9,6 @@ pub mod RowChanges
 pub mod Lists
 pub mod Dismissals
 pub mod DueFirst
+pub mod OnePerPair
+pub mod PageEntries
+pub mod PageRows

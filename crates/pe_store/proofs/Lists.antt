@@ -1,6 +1,7 @@
 -- Look-ups in lists of entries.
 use Rattle.std.proofs.Common.{◌≡◌, ℕ, zero, suc, ◌+◌, ◌<◌, ◌≤◌, Bool, true, false, not, List, [], ◌∷◌, length, filter, Option, Some, None, slice_get, refl, sym, ◌∙◌, ap, arith, cond, subst, true≢false, Bor, IfSome, nat_lt}
 use Rattle.std.specs.Bool.{Decides}
+use Rattle.std.specs.Cmp.{both_ways}
 use Rattle.std.specs.List.{find, remove}
 use Rattle.std.specs.Map.{values_of}
 use Rattle.std.specs.Option.{option_copied, unwrap_or}
@@ -18,6 +19,9 @@ module _ (pairs : (p q : Pair) → Decides (is_same_pair p q) (p ≡ q)) where
 
   pub same-as : (p q r : Pair) → is_same_pair p q ≡ true → is_same_pair q r ≡ is_same_pair p r
   same-as p q r h = let e : p ≡ q = (pairs p q).0 h in ap (λ (x : Pair). is_same_pair x r) (sym e)
+
+  pub same-turned : (p q : Pair) → is_same_pair p q ≡ is_same_pair q p
+  same-turned p q = both_ways (is_same_pair p q) (is_same_pair q p) (λ h. (pairs q p).1 (sym ((pairs p q).0 h))) (λ h. (pairs p q).1 (sym ((pairs q p).0 h)))
 
   pub same-apart : (p q r : Pair) → is_same_pair p q ≡ false → is_same_pair p r ≡ true → is_same_pair q r ≡ false
   same-apart p q r h k = by_test (is_same_pair q r) refl

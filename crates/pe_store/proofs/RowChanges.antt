@@ -35,7 +35,7 @@ without-of : (q : Pair) (es : List Entry) → filter (λ e. not (is_of q e)) es 
 unfolding without
 without-of q es = refl
 
-none-found : (q : Pair) (rows : PlacedEntries) → AllByRecursion (λ (r : Place × Entry). is_of q r.1 ≡ false) rows → find (is_of q) (values_of rows) ≡ None
+pub none-found : (q : Pair) (rows : PlacedEntries) → AllByRecursion (λ (r : Place × Entry). is_of q r.1 ≡ false) rows → find (is_of q) (values_of rows) ≡ None
 none-found q [] h = refl
 none-found q (r ∷ rows) h = rw h.0 (none-found q rows h.1)
 

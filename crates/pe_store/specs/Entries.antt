@@ -41,6 +41,11 @@ entry_of entries pair = find (is_of pair) entries
 unfoldable pub without : Pair → List Entry → List Entry
 without pair entries = filter (λ e. not (is_of pair e)) entries
 
+-- the entries without those of the pairs
+unfoldable pub without_all : List Pair → List Entry → List Entry
+without_all [] entries = entries
+without_all (pair ∷ pairs) entries = without_all pairs (without pair entries)
+
 -- the entries with this one in the place of that of its pair, else behind those of its feature and of the features before it
 unfoldable pub put_entry : Entry → List Entry → List Entry
 put_entry new [] = new ∷ []

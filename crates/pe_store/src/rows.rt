@@ -1,11 +1,12 @@
 //! Entries at their places, with the numbers of their pairs and what ends them.
-ghost use Rattle.std.specs.Prelude.{◌≡◌, ℕ, ◌+◌, [], None, Some, slice_get, IfSome, IfErr, IfNone, OnOk, OnErr, length, if◌then◌else◌};
+ghost use Rattle.std.specs.Prelude.{◌≡◌, ℕ, ◌+◌, ◌++◌, map, option_to_list, [], None, Some, slice_get, IfSome, IfOk, IfErr, IfNone, OnOk, OnErr, length, if◌then◌else◌};
 ghost use Rattle.std.specs.BTreeMap.{insert_entry, is_at};
 ghost use Rattle.std.specs.List.Sorted.{IsStrictlySortedBy};
 ghost use Rattle.std.specs.Map.{keys_of, values_of};
 ghost use Rattle.std.specs.Option.{option_copied};
 ghost use Rattle.pe_store.specs.Due.{HasNoEnd, IsFirstEnd};
-ghost use Rattle.pe_store.specs.Entries.{pair_of, entry_of, put_entry, without};
+ghost use Rattle.pe_store.specs.Entries.{pair_of, entry_of, put_entry, without, IsOnePerPair};
+ghost use Rattle.pe_store.specs.Pages.{pairs_of_page};
 ghost use Rattle.pe_store.specs.Numbers.{number_of, IsChangedFor};
 ghost use Rattle.pe_store.specs.declared.entry.Entry.{Entry};
 ghost use Rattle.pe_store.specs.declared.place.Place.{Place};
@@ -16,6 +17,7 @@ use crate::key::Key;
 use crate::law::same_pairs_are_one;
 use crate::numbers::PairNumbers;
 use crate::place::{Ending, Endings, Place, drop_end, ends_alike, put_end};
+use pe_base::DocNo;
 use pe_features::Feature;
 use std::alloc::{AllocError, Global};
 use std::collections::BTreeMap;
@@ -98,6 +100,16 @@ fn change_end(
     put_end(endings, entry.life, place)?;
     if !ends_alike(old.life, entry.life) {
         drop_end(endings, old.life, place);
+    }
+    Ok(())
+}
+
+// Puts the pair of an entry, if there is one, behind the others. `AllocError` where memory wants.
+fn put_pair(found: Option<&Entry>, pairs: &mut Vec<(Feature, Key)>) -> Result<(), AllocError>
+    ensures { OnOk result (pairs.new.items ≡ pairs.old.items ++ map pair_of (option_to_list (option_copied found.entry))) }
+{
+    if let Some(entry) = found {
+        pairs.push((entry.feature, entry.key.copy()?))?;
     }
     Ok(())
 }
@@ -252,6 +264,28 @@ impl Rows {
         ensures { (i : ℕ) (e : Entry) → slice_get self.now i ≡ Some (place, e) → result ≡ i }
     {
         self.map.range(..place).count()
+    }
+
+    // The pairs of the entries that hold while a document is current, in order. `AllocError` where memory wants.
+    pub(crate) fn pairs_of_page(
+        &self,
+        alloc: Global,
+        doc: DocNo,
+    ) -> Result<Vec<(Feature, Key)>, AllocError>
+        ensures pairs { IfOk result (λ pairs. pairs.items ≡ pairs_of_page doc (values_of self.now)) }
+        ensures one_per_pair { OnOk result (IsOnePerPair (values_of self.now)) }
+    {
+        same_pairs_are_one();
+        let by = u64::from(doc.get());
+        let mut pairs = Vec::new(alloc);
+        for ending in self
+            .endings
+            .pages
+            .range(Ending::first_by(by)..Ending::first_by(by + 1))
+        {
+            put_pair(self.at(ending.place), &mut pairs)?;
+        }
+        Ok(pairs)
     }
 
     // Takes the entry at a place out.

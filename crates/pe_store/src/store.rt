@@ -4,15 +4,17 @@ ghost use Rattle.std.specs.Option.{option_copied};
 ghost use Rattle.pe_base.specs.declared.limits.TheConstants.{STORE_LIMIT, EMBARGO_DISMISSALS};
 ghost use Rattle.pe_store.specs.declared.key.Life.TheVariants as life;
 ghost use Rattle.pe_store.specs.Due.{IsDue, IsDueEntry};
-ghost use Rattle.pe_store.specs.Entries.{dismissals_of, pair_of, entry_of, put_entry, stored, without, IsFull, counts_over, counts, completes_embargo, embargo};
+ghost use Rattle.pe_store.specs.Entries.{dismissals_of, pair_of, entry_of, put_entry, stored, without, without_all, IsFull, counts_over, counts, completes_embargo, embargo};
+ghost use Rattle.pe_store.specs.Pages.{pairs_of_page, without_page, is_listed, AreApart};
 ghost use Rattle.pe_store.specs.Pairs.{Pair, is_same_pair};
+ghost use Rattle.pe_store.specs.Places.{has_life, is_page_of};
 
 use crate::entry::{Entry, StoreFault};
 use crate::key::{Key, Life};
 use crate::law::same_pairs_are_one;
 use crate::numbers::PairNumbers;
 use crate::rows::Rows;
-use pe_base::{EMBARGO_DISMISSALS, EMBARGO_SPAN, Millis, STORE_LIMIT, State, Steps};
+use pe_base::{DocNo, EMBARGO_DISMISSALS, EMBARGO_SPAN, Millis, STORE_LIMIT, State, Steps};
 use pe_features::Feature;
 use std::alloc::{AllocError, Global};
 use std::marker::Model;
@@ -25,6 +27,7 @@ use std::sync::ledger::Ledger;
 /// Looking up, setting and clearing cost a logarithm of the entries.
 #[derive(Drop)]
 pub struct Store {
+    alloc: Global,
     rows: Rows,
     dismissals: PairNumbers,
 }
@@ -49,6 +52,7 @@ impl Store {
         ensures dismissals { (pair : Pair) → dismissals_of result pair ≡ 0 }
     {
         Store {
+            alloc,
             rows: Rows::new(alloc),
             dismissals: PairNumbers::new(alloc),
         }
@@ -217,6 +221,35 @@ impl Store {
         match self.rows.place_of(feature, key) {
             Some(place) => is_there(self.rows.take(place)),
             None => false,
+        }
+    }
+
+    /// Takes the entries out that hold while a top document is current, and gives their pairs in order. The other
+    /// entries keep their order, and how often pairs were dismissed stays.
+    /// `AllocError` where memory wants; all is then as before.
+    /// It costs a logarithm of the entries for each that it takes out.
+    pub fn end_page(&mut self, doc: DocNo) -> Result<Vec<(Feature, Key)>, AllocError>
+        ensures pairs { IfOk result (λ pairs. pairs.items ≡ pairs_of_page doc self.old.entries) }
+        ensures apart { IfOk result (λ pairs. AreApart pairs.items) }
+        ensures listed { IfOk result (λ pairs. (pair : Pair) → is_listed pair pairs.items ≡ has_life is_page_of doc (entry_of self.old.entries pair)) }
+        ensures list { OnOk result (self.new.entries ≡ without_page doc self.old.entries) }
+        ensures found { OnOk result ((pair : Pair) → entry_of self.new.entries pair ≡ if has_life is_page_of doc (entry_of self.old.entries pair) then None else entry_of self.old.entries pair) }
+        ensures dismissals { self.new.dismissals ≡ self.old.dismissals }
+        ensures err { OnErr result (self.new ≡ self.old) }
+    {
+        same_pairs_are_one();
+        let pairs = self.rows.pairs_of_page(self.alloc, doc)?;
+        self.clear_all(&pairs);
+        Ok(pairs)
+    }
+
+    // Takes the entries of the pairs out.
+    fn clear_all(&mut self, pairs: &[(Feature, Key)])
+        ensures list { self.new.entries ≡ without_all pairs.now self.old.entries }
+        ensures dismissals { self.new.dismissals ≡ self.old.dismissals }
+    {
+        for (feature, key) in pairs {
+            self.clear(*feature, key);
         }
     }
 }
