@@ -20,10 +20,6 @@ below-changed q w old new low changed below pair = rw (changed pair) (by_test (i
     by_test true h = low
     by_test false h = h
 
-pub below-is : (q : Pair) (store : StoreValue) → AreBelowEmbargo store.dismissals → dismissals_of store q < EMBARGO_DISMISSALS
-unfolding AreBelowEmbargo dismissals_of
-below-is q store below = below q
-
 -- the count of a pair that is one more, where the others stay
 pub counted-more : (q : Pair) (old new : StoreValue) (n : ℕ) → n ≡ dismissals_of old q + 1 → IsChangedFor q (Some n) old.dismissals new.dismissals → (pair : Pair)
     → dismissals_of new pair ≡ cond (is_same_pair q pair) (dismissals_of old q + 1) (dismissals_of old pair)

@@ -153,13 +153,6 @@ module _ (pairs : (p q : Pair) → Decides (is_same_pair p q) (p ≡ q)) (rows :
       paged = put-ending is_page_of rows' pages pages' at-rows is.paged put-page;
     }
 
-    same-rows : (r : Place) → row r ≡ cond (is_at (place_cmp fresh) r) None (row r)
-    same-rows r = by_test (is_at (place_cmp fresh) r) refl
-      where
-        by_test : (b : Bool) → is_at (place_cmp fresh) r ≡ b → row r ≡ cond b None (row r)
-        by_test true h = ap row (sym (place-exact fresh r h)) ∙ fresh-none
-        by_test false h = refl
-
     pub rows-kept : (serials' : List KeyNumbers) (moments' pages' : List Ending) → IsChangedFor (pair_of new) None serials serials'
         → AreEndings is_moment_of row moments' → AreEndings is_page_of row pages' → IsRows rows serials' moments' pages' next
     unfolding IsChangedFor
@@ -305,10 +298,6 @@ module _ (pairs : (p q : Pair) → Decides (is_same_pair p q) (p ≡ q)) (rows :
       timed = change-ending is_moment_of rows' moments moments' at-rows is.timed change-moment;
       paged = change-ending is_page_of rows' pages pages' at-rows is.paged change-page;
     }
-
-  pub rows-same : (moments' pages' : List Ending) → moments' ≡ moments → pages' ≡ pages → IsRows rows serials moments' pages' next
-  rows-same moments' pages' same-moments same-pages =
-      subst (λ (ends : List Ending). IsRows rows serials ends pages' next) (sym same-moments) (subst (λ (ends : List Ending). IsRows rows serials moments ends next) (sym same-pages) is)
 
 pub replaced-pair : (rows self : PlacedEntries) (p : Place) (q : Pair) (e : Entry) → rows ≡ self → HasRow self p q → row_at rows p ≡ Some e → pair_of e ≡ q
 replaced-pair rows self p q e same h there =

@@ -214,7 +214,7 @@ impl Store {
         ensures list { self.new.entries ≡ without (feature, key.now) self.old.entries }
         ensures found { (pair : Pair) → entry_of self.new.entries pair ≡ if is_same_pair (feature, key.now) pair then None else entry_of self.old.entries pair }
         ensures there { result ≡ is_some (entry_of self.old.entries (feature, key.now)) }
-        ensures fewer { IsTrue result → length self.new.entries < length self.old.entries }
+        ensures fewer { IsTrue result → length self.new.entries + 1 ≡ length self.old.entries }
         ensures dismissals { self.new.dismissals ≡ self.old.dismissals }
     {
         same_pairs_are_one();
