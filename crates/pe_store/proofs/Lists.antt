@@ -62,19 +62,14 @@ module _ (pairs : (p q : Pair) → Decides (is_same_pair p q) (p ≡ q)) where
 
   -- ---- nothing to take out
 
-  none-of : (p : Pair) (es : List Entry) → entry_of es p ≡ None → filter (λ e. not (is_of p e)) es ≡ es
-  unfolding entry_of
-  none-of p [] h = refl
-  none-of p (e ∷ es) h = by_of (is_of p e) h (none-of p es)
+  pub without-none : (p : Pair) (es : List Entry) → entry_of es p ≡ None → without p es ≡ es
+  unfolding entry_of without
+  without-none p [] h = refl
+  without-none p (e ∷ es) h = by_of (is_of p e) h (without-none p es)
     where
       by_of : (b : Bool) → cond b (Some e) (find (is_of p) es) ≡ None → (find (is_of p) es ≡ None → filter (λ e. not (is_of p e)) es ≡ es) → cond (not b) (e ∷ filter (λ e. not (is_of p e)) es) (filter (λ e. not (is_of p e)) es) ≡ e ∷ es
       by_of true h rest = cc
       by_of false h rest = ap (λ (xs : List Entry). e ∷ xs) (rest h)
-
-  -- nothing is of a pair that has no entry
-  pub without-none : (p : Pair) (es : List Entry) → entry_of es p ≡ None → without p es ≡ es
-  unfolding without
-  without-none p es h = none-of p es h
 
   -- ---- the row of a pair, taken out
 

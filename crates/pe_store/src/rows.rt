@@ -1,5 +1,5 @@
 //! Entries at their places, with the numbers of their pairs and what ends them.
-ghost use Rattle.std.specs.Prelude.{◌≡◌, ℕ, ◌+◌, ◌++◌, map, option_to_list, [], None, Some, slice_get, IfSome, IfOk, IfErr, IfNone, OnOk, OnErr, length, if◌then◌else◌};
+ghost use Rattle.std.specs.Prelude.{◌≡◌, ℕ, ◌+◌, ◌++◌, map, option_to_list, [], None, Some, slice_get, is_some, MatchOption, IfSome, IfOk, IfErr, IfNone, OnOk, OnErr, length, if◌then◌else◌};
 ghost use Rattle.std.specs.BTreeMap.{insert_entry, is_at};
 ghost use Rattle.std.specs.List.Sorted.{IsStrictlySortedBy};
 ghost use Rattle.std.specs.Map.{keys_of, values_of};
@@ -191,7 +191,7 @@ impl Rows {
     }
 
     // Puts an entry of a pair that has none behind those of its feature.
-    pub(crate) fn insert(&mut self, entry: Entry) -> Result<(), AllocError>
+    fn insert(&mut self, entry: Entry) -> Result<(), AllocError>
         requires absent { entry_of (values_of self.old) (pair_of entry) ≡ None }
         ensures list { OnOk result (values_of self.new ≡ put_entry entry (values_of self.old)) }
         ensures len { OnOk result (length self.new ≡ length self.old + 1) }
@@ -219,7 +219,7 @@ impl Rows {
     }
 
     // Puts an entry in the place of that of its pair.
-    pub(crate) fn replace(&mut self, place: Place, entry: Entry) -> Result<(), AllocError>
+    fn replace(&mut self, place: Place, entry: Entry) -> Result<(), AllocError>
         requires there { HasRow self.old place (pair_of entry) }
         ensures list { OnOk result (values_of self.new ≡ put_entry entry (values_of self.old)) }
         ensures len { OnOk result (length self.new ≡ length self.old) }
@@ -286,6 +286,19 @@ impl Rows {
             put_pair(self.at(ending.place), &mut pairs)?;
         }
         Ok(pairs)
+    }
+
+    // Puts an entry in the place of that of its pair, which is given, else behind those of its feature.
+    pub(crate) fn put(&mut self, place: Option<Place>, entry: Entry) -> Result<(), AllocError>
+        requires place { MatchOption place (entry_of (values_of self.old) (pair_of entry) ≡ None) (λ p. HasRow self.old p (pair_of entry)) }
+        ensures list { OnOk result (values_of self.new ≡ put_entry entry (values_of self.old)) }
+        ensures len { OnOk result (length self.new ≡ (if is_some place then length self.old else length self.old + 1)) }
+        ensures err { OnErr result (self.new ≡ self.old) }
+    {
+        match place {
+            Some(place) => self.replace(place, entry),
+            None => self.insert(entry),
+        }
     }
 
     // Takes the entry at a place out.

@@ -115,31 +115,18 @@ impl Store {
         ensures err { OnErr result (self.new ≡ self.old) }
     {
         same_pairs_are_one();
-        match self.rows.place_of(feature, &key) {
-            Some(place) => {
-                let Ok(entry) = new_entry(feature, &key, state, life) else {
-                    return Err(StoreFault::Memory);
-                };
-                if self.rows.replace(place, entry).is_err() {
-                    return Err(StoreFault::Memory);
-                }
-                self.dismissals.remove(feature, &key);
-                Ok(())
-            }
-            None => {
-                if self.rows.len() == STORE_LIMIT {
-                    return Err(StoreFault::Full);
-                }
-                let Ok(entry) = new_entry(feature, &key, state, life) else {
-                    return Err(StoreFault::Memory);
-                };
-                if self.rows.insert(entry).is_err() {
-                    return Err(StoreFault::Memory);
-                }
-                self.dismissals.remove(feature, &key);
-                Ok(())
-            }
+        let place = self.rows.place_of(feature, &key);
+        if place.is_none() && self.rows.len() == STORE_LIMIT {
+            return Err(StoreFault::Full);
         }
+        let Ok(entry) = new_entry(feature, &key, state, life) else {
+            return Err(StoreFault::Memory);
+        };
+        if self.rows.put(place, entry).is_err() {
+            return Err(StoreFault::Memory);
+        }
+        self.dismissals.remove(feature, &key);
+        Ok(())
     }
 
     /// Counts a dismissal of a pair, where nothing or prompt is stored for it, and says whether it is an embargo: the
