@@ -23,7 +23,7 @@ use Rattle.pe_store.specs.declared.key.Life.{Life}
 use Rattle.pe_store.specs.declared.key.Life.TheVariants as life
 use Rattle.pe_store.specs.declared.place.Place.{Place}
 use Rattle.pe_store.specs.declared.place.Ending.{Ending}
-use Rattle.pe_store.specs.Due.{moment_of, moment_at, IsDue, IsDueEntry, HasNoEnd, IsFirstEnd}
+use Rattle.pe_store.specs.Due.{moment_of, moment_at, IsDue, IsDueEntry, IsFirstEnd}
 use Rattle.pe_store.specs.Places.{place_cmp, ending_cmp, has_ending, has_life, is_moment_of, AreEndings, PlacedEntries, row_at}
 use Rattle.pe_store.proofs.Numbered.{place-total, place-exact}
 
@@ -114,11 +114,11 @@ module _ (rows : PlacedEntries) (moments : List Ending) (ordered : IsStrictlySor
       let row = row-at-index rows i at.0 value.0 ordered at.1 in
       (at.0, value.0, at.1, timed (record { by = m; place = at.0 }) ∙ ap (has_life is_moment_of m) row ∙ ap (is_moment_of m) value.2 ∙ at-moment m)
 
-  pub no-end : moments ≡ [] → HasNoEnd rows
+  pub no-end : (upto : ℕ) → moments ≡ [] → IsDue (values_of rows) upto None
   unfolding has_ending
-  no-end none i m h =
+  no-end upto none i m h =
       let of = ending-of i m h in
-      true≢false (sym of.3 ∙ ap (λ (ends : List Ending). has_ending ends (record { by = m; place = of.0 })) none)
+      absurd (true≢false (sym of.3 ∙ ap (λ (ends : List Ending). has_ending ends (record { by = m; place = of.0 })) none))
 
   pub first-end : (first : Ending) → has_ending moments first ≡ true → ((x : Ending) → has_ending moments x ≡ true → is_gt (ending_cmp first x) ≡ false) → IsFirstEnd rows first
   unfolding AreEndings
@@ -154,6 +154,9 @@ due-first rows first is upto i le at = (
   le,
   subst (λ (n : ℕ). (other moment : ℕ) → moment_at (values_of rows) other ≡ Some moment → (first.by < moment) ⊎ ((first.by ≡ moment) × (n ≤ other))) (sym at) is.least,
 )
+
+pub not-due : (rows : PlacedEntries) (first : Ending) (upto : ℕ) → IsFirstEnd rows first → upto < first.by → IsDue (values_of rows) upto None
+not-due rows first upto is lt i m h = elim (is.least i m h) [ inl above ↦ omega arith | inr same ↦ omega (arith, same.0) ]
 
 pub due-entry : (rows : PlacedEntries) (first : Ending) (e : Entry) → IsFirstEnd rows first → (upto : ℕ) → first.by ≤ upto → row_at rows first.place ≡ Some e → IsDueEntry (values_of rows) upto first.by e
 due-entry rows first e is upto le there =

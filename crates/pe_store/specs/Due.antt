@@ -30,10 +30,6 @@ IsDueEntry entries upto moment entry = (place : ℕ) × IsDue entries upto (Some
 
 -- ---- the same of entries at their places in the store
 
--- no entry ends by a moment
-abbrev pub HasNoEnd : PlacedEntries → Type 0
-HasNoEnd rows = (place moment : ℕ) → moment_at (values_of rows) place ≡ Some moment → ⊥
-
 -- the ending by a moment is the first: that of the entry at this place of the list
 pub record IsFirstEnd (rows : PlacedEntries) (first : Ending) : Type 0 where
   pub place : ℕ

@@ -1,10 +1,10 @@
 //! Entries at their places, with the numbers of their pairs and what ends them.
-ghost use Rattle.std.specs.Prelude.{◌≡◌, ℕ, ◌+◌, ◌++◌, map, option_to_list, [], None, Some, slice_get, is_some, MatchOption, IfSome, IfOk, IfErr, IfNone, OnOk, OnErr, length, if◌then◌else◌};
+ghost use Rattle.std.specs.Prelude.{◌≡◌, ℕ, ◌+◌, ◌≤◌, ◌++◌, map, option_to_list, [], None, Some, slice_get, is_some, MatchOption, IfSome, IfOk, IfErr, IfNone, OnOk, OnErr, length, if◌then◌else◌};
 ghost use Rattle.std.specs.BTreeMap.{insert_entry, is_at};
 ghost use Rattle.std.specs.List.Sorted.{IsStrictlySortedBy};
 ghost use Rattle.std.specs.Map.{keys_of, values_of};
 ghost use Rattle.std.specs.Option.{option_copied};
-ghost use Rattle.pe_store.specs.Due.{HasNoEnd, IsFirstEnd};
+ghost use Rattle.pe_store.specs.Due.{IsDue, IsFirstEnd};
 ghost use Rattle.pe_store.specs.Entries.{pair_of, entry_of, put_entry, without, IsOnePerPair};
 ghost use Rattle.pe_store.specs.Pages.{pairs_of_page};
 ghost use Rattle.pe_store.specs.Numbers.{number_of, IsChangedFor};
@@ -239,15 +239,17 @@ impl Rows {
         }
     }
 
-    // The first moment at which an entry ends, with the place of the first entry that ends then.
-    pub(crate) fn first_end(&self) -> Option<Ending>
-        ensures none { IfNone result (HasNoEnd self.now) }
-        ensures some { IfSome result (IsFirstEnd self.now) }
+    // The first ending by a moment up to this one.
+    pub(crate) fn first_due(&self, upto: u64) -> Option<Ending>
+        ensures none { IfNone result (IsDue (values_of self.now) upto None) }
+        ensures some { IfSome result (λ first. IsFirstEnd self.now first) }
+        ensures low { IfSome result (λ first. first.by ≤ upto) }
     {
-        match self.endings.moments.first() {
-            Some(first) => Some(*first),
-            None => None,
+        let first = *self.endings.moments.first()?;
+        if first.by > upto {
+            return None;
         }
+        Some(first)
     }
 
     // The entry that stands behind so many others.

@@ -166,10 +166,7 @@ impl Store {
     pub fn due(&self, upto: u64) -> Option<(u64, usize)>
         ensures { IsDue self.now.entries upto result }
     {
-        let first = self.rows.first_end()?;
-        if first.by > upto {
-            return None;
-        }
+        let first = self.rows.first_due(upto)?;
         Some((first.by, self.rows.index_of(first.place)))
     }
 
@@ -188,10 +185,7 @@ impl Store {
         ensures dismissals { self.new.dismissals ≡ self.old.dismissals }
     {
         same_pairs_are_one();
-        let first = self.rows.first_end()?;
-        if first.by > upto {
-            return None;
-        }
+        let first = self.rows.first_due(upto)?;
         let entry = self.rows.take(first.place)?;
         Some((first.by, entry))
     }

@@ -13,7 +13,7 @@ returns-clause-due c =
     let first = c.in_ok-first.first in
     let entry = c.in_ok-entry.entry in
     subst (λ (v : StoreValue). IsDueEntry v.entries c.args.upto first.by entry) c.self.view_is
-    (due-entry c.self.inside.rows first entry c.in_ok-first.ensures.some c.args.upto c.if-first-upto.false (sym c.in_ok-entry.ensures.value))
+    (due-entry c.self.inside.rows first entry c.in_ok-first.ensures.some c.args.upto c.in_ok-first.ensures.low (sym c.in_ok-entry.ensures.value))
 
 pub returns-clause-found : goal.returns-clause-found
 returns-clause-found c pair =
