@@ -3,10 +3,10 @@
 ghost use Rattle.std.specs.Prelude.{◌≡◌, ◌<◌, ◌≤◌};
 
 use crate::{Key, Life, Store, StoreFault};
-use pe_base::{DocNo, EVENT_LIMIT, Millis, STORE_LIMIT, State, Steps, TIME_LIMIT};
+use pe_base::{Bytes, DocNo, EVENT_LIMIT, Millis, STORE_LIMIT, State, Steps, TIME_LIMIT};
 use pe_features::Feature;
-use pe_origin::{Origin, PlaceFault, read_place};
-use std::alloc::Global;
+use pe_origin::{HostForm, Origin, Scheme, Tuple};
+use std::alloc::{AllocError, Global};
 use std::marker::Brand;
 use std::sync::ledger::{Blank, Ledger};
 
@@ -28,13 +28,19 @@ fn time(millis: u64) -> Millis {
     }
 }
 
-fn tuple_origin(alloc: Global) -> Result<Origin, PlaceFault> {
-    let place = read_place(alloc, b"https://a.example/")?;
-    Ok(Origin::Tuple(place.tuple.ok_or(PlaceFault::NotAUrl)?))
+// https://a.example.
+fn tuple_origin(alloc: Global) -> Result<Origin, AllocError> {
+    let host = Vec::from_slice(alloc, b"a.example")?;
+    Ok(Origin::Tuple(Tuple {
+        scheme: Scheme::Https,
+        host: Bytes::of(host),
+        form: HostForm::Domain,
+        port: 443,
+    }))
 }
 
 // The key with this name: 0 is that of https://a.example; odd names are opaque origins, and even ones pairs of two.
-fn key(alloc: Global, name: u32) -> Result<Key, PlaceFault> {
+fn key(alloc: Global, name: u32) -> Result<Key, AllocError> {
     if name == 0 {
         Ok(Key::One(tuple_origin(alloc)?))
     } else if name % 2 == 1 {
@@ -439,6 +445,14 @@ fn memory_that_wants_changes_nothing(rt: HostRuntime) {
     for answer in [false, false, true] {
         assert_eq!(rt; session.dismisses_again(MIDI, 1), Some(answer));
     }
-    assert_eq!(rt; session.ends_again(1), 2);
-    assert_eq!(rt; session.store.len(), 2);
+    for name in 1..=40 {
+        assert!(rt; session.sets_again((Feature::Gyroscope, name), State::Granted, None));
+        assert!(rt; session.sets_again((Feature::Microphone, name), State::Granted, Some(1)));
+        assert_eq!(rt;
+            session.dismisses_again((Feature::Autoplay, name), 1),
+            Some(false)
+        );
+    }
+    assert_eq!(rt; session.ends_again(1), 42);
+    assert_eq!(rt; session.store.len(), 42);
 }
