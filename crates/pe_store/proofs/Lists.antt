@@ -1,14 +1,14 @@
 -- Look-ups in lists of entries.
-use Rattle.std.proofs.Common.{◌≡◌, ℕ, zero, suc, ◌+◌, ◌<◌, ◌≤◌, Bool, true, false, not, List, [], ◌∷◌, length, filter, Option, Some, None, slice_get, refl, sym, ◌∙◌, ap, arith, cond, subst, true≢false, Bor, IfSome, nat_lt}
+use Rattle.std.proofs.Common.{◌≡◌, ℕ, Bool, true, false, not, List, [], ◌∷◌, filter, Option, Some, None, refl, sym, ◌∙◌, ap, cond, subst, true≢false, IfSome, nat_lt}
 use Rattle.std.specs.Bool.{Decides}
 use Rattle.std.specs.Cmp.{both_ways}
-use Rattle.std.specs.List.{find, remove}
+use Rattle.std.specs.List.{find}
 use Rattle.std.specs.Map.{values_of}
-use Rattle.std.specs.Option.{option_copied, unwrap_or}
+use Rattle.std.specs.Option.{unwrap_or}
 use Rattle.pe_features.specs.Features.{feature_number}
 use Rattle.pe_store.specs.declared.entry.Entry.{Entry}
 use Rattle.pe_store.specs.declared.place.Place.{Place}
-use Rattle.pe_store.specs.Entries.{StoreValue, dismissals_of, pair_of, is_of, entry_of, without, put_entry, IsOnePerPair}
+use Rattle.pe_store.specs.Entries.{StoreValue, dismissals_of, pair_of, is_of, entry_of, without, put_entry}
 use Rattle.pe_store.specs.Numbers.{number_of, IsChangedFor}
 use Rattle.pe_store.specs.Pairs.{Pair, is_same_pair}
 use Rattle.pe_store.specs.Places.{PlacedEntries, row_at, HasRow}

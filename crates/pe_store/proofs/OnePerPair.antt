@@ -6,9 +6,7 @@ use Rattle.std.specs.List.Sorted.{IsStrictlySortedBy}
 use Rattle.std.specs.Map.{keys_of, values_of}
 use Rattle.std.specs.BTreeMap.{is_at}
 use Rattle.std.specs.Ordering.{is_eq}
-use Rattle.std.specs.declared.cmp.Ordering.{Ordering}
-use Rattle.std.specs.declared.cmp.Ordering.TheVariants.{Less, Equal}
-use Rattle.std.proofs.lemmas.Cmp.{tied_itself}
+use Rattle.std.specs.declared.cmp.Ordering.TheVariants.{Less}
 use Rattle.std.proofs.lemmas.Map.Keys.{sorted_head, sorted_tail}
 use Rattle.pe_features.specs.Features.{feature_number}
 use Rattle.pe_store.specs.declared.entry.Entry.{Entry}
@@ -17,7 +15,7 @@ use Rattle.pe_store.specs.declared.place.Ending.{Ending}
 use Rattle.pe_store.specs.Entries.{pair_of, is_of, entry_of, IsOnePerPair}
 use Rattle.pe_store.specs.Numbers.{KeyNumbers, number_of}
 use Rattle.pe_store.specs.Pairs.{Pair, is_same_pair}
-use Rattle.pe_store.specs.Places.{place_cmp, PlacedEntries, row_at, IsRows}
+use Rattle.pe_store.specs.Places.{place_cmp, PlacedEntries, IsRows}
 use Rattle.pe_store.proofs.Lists.{same-self}
 use Rattle.pe_store.proofs.Numbered.{place-total, place-parts, place-itself}
 use Rattle.pe_store.proofs.RowChanges.{none-found}

@@ -1,5 +1,5 @@
 -- Clauses on an outcome, where it is known which it is, or where they hold of any.
-use Rattle.std.proofs.Common.{◌≡◌, Bool, false, Option, Some, None, Result, Ok, Err, OnOk, OnErr, IfNone, is_err}
+use Rattle.std.proofs.Common.{◌≡◌, false, Option, Some, None, Result, Ok, Err, OnOk, OnErr, IfNone, is_err}
 
 pub on-err : {T E P : Type 0} (r : Result T E) → P → OnErr r P
 on-err (Ok x) p = tt

@@ -1,4 +1,4 @@
-use Rattle.std.proofs.Common.{◌≡◌, ◌∙◌, sym, ap, List, arith, drop, ◌+◌}
+use Rattle.std.proofs.Common.{◌∙◌, sym, ap, List, drop, ◌+◌}
 use Rattle.pe_store.specs.declared.entry.Entry.{Entry}
 use Rattle.pe_store.specs.Entries.{without_all}
 use Rattle.pe_store.proofs.PageEntries.{taken-more, taken-all}

@@ -1,4 +1,4 @@
-use Rattle.std.proofs.Common.{◌≡◌, ◌<◌, ◌∙◌, ap, ℕ, Option, Fits, w32, arith}
+use Rattle.std.proofs.Common.{◌<◌, ◌∙◌, ap, ℕ, Option, Fits, w32, arith}
 use Rattle.std.specs.Option.{unwrap_or}
 use Rattle.pe_base.specs.declared.limits.TheConstants.{EMBARGO_DISMISSALS}
 use Rattle.pe_store.specs.Entries.{StoreValue, dismissals_of, AreBelowEmbargo}

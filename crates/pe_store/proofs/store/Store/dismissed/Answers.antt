@@ -1,4 +1,4 @@
-use Rattle.std.proofs.Common.{◌≡◌, ◌+◌, ◌<◌, ◌∙◌, Bool, true, false, ◌&&◌, sym, ap, subst, cond, Some, arith}
+use Rattle.std.proofs.Common.{◌≡◌, ◌+◌, ◌<◌, ◌∙◌, true, ◌&&◌, sym, ap, subst, cond, Some, arith}
 use Rattle.std.specs.Map.{values_of}
 use Rattle.pe_base.specs.declared.limits.TheConstants.{EMBARGO_DISMISSALS}
 use Rattle.pe_store.specs.Entries.{StoreValue, dismissals_of, counts_over, counts, completes_embargo}

@@ -1,7 +1,7 @@
 use Rattle.std.proofs.Common.{◌≡◌, ◌∙◌, sym, ap, subst, List}
 use Rattle.pe_store.specs.declared.entry.Entry.{Entry}
 use Rattle.pe_store.specs.Entries.{StoreValue, entry_of, without_all, IsOnePerPair}
-use Rattle.pe_store.specs.Pages.{pairs_of_page, without_page, is_listed, AreApart}
+use Rattle.pe_store.specs.Pages.{pairs_of_page, is_listed, AreApart}
 use Rattle.pe_store.specs.Pairs.{Pair}
 use Rattle.pe_store.proofs.PageEntries.{apart-pages, listed-pages, found-pages, pages-taken}
 use Rattle.pe_store.proofs.store.Store.end_page.Goals as goal
