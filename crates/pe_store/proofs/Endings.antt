@@ -1,5 +1,5 @@
 -- Endings that are put down and forgotten.
-use Rattle.std.proofs.Common.{◌≡◌, ℕ, Bool, true, false, ◌&&◌, ◌||◌, not, cond, List, Option, refl, sym, ap, ◌∙◌, arith, subst, true≢false}
+use Rattle.std.proofs.Common.{◌≡◌, ℕ, Bool, true, false, ◌&&◌, ◌||◌, not, cond, List, Option, refl, sym, ap, ◌∙◌, arith, true≢false}
 use Rattle.std.specs.Prelude.{◌==◌}
 use Rattle.std.specs.BTreeMap.{is_at}
 use Rattle.std.specs.Ordering.{is_eq, nat_cmp, ordering_then}
@@ -27,7 +27,7 @@ then-eq Greater Greater = refl
 number-eq : (m n : ℕ) → is_eq (nat_cmp m n) ≡ (n == m)
 number-eq m n = grind (arith, nat_tests)
 
-ending-at : (by : ℕ) (p : Place) (x : Ending) → is_at (ending_cmp (record { by = by; place = p })) x ≡ is_same_place p x.place && x.by == by
+pub ending-at : (by : ℕ) (p : Place) (x : Ending) → is_at (ending_cmp (record { by = by; place = p })) x ≡ is_same_place p x.place && x.by == by
 ending-at by p x = then-eq (nat_cmp by x.by) (place_cmp p x.place) ∙ ap (λ b. is_same_place p x.place && b) (number-eq by x.by)
 
 puts : (a b : Bool) → cond a true b ≡ a || b

@@ -1,3 +1,4 @@
+pub mod Results
 pub mod SamePair
 pub mod SameKey
 pub mod NumberChanges
@@ -6,3 +7,8 @@ pub mod Sorted
 pub mod Numbered
 pub mod RowChanges
 pub mod Lists
+pub mod Dismissals
+pub mod DueFirst
+pub mod OnePerPair
+pub mod PageEntries
+pub mod PageRows

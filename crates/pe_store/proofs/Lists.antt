@@ -1,13 +1,14 @@
 -- Look-ups in lists of entries.
-use Rattle.std.proofs.Common.{◌≡◌, ℕ, zero, suc, ◌+◌, ◌<◌, ◌≤◌, Bool, true, false, not, List, [], ◌∷◌, length, filter, Option, Some, None, slice_get, refl, sym, ◌∙◌, ap, arith, cond, subst, true≢false, Bor, IfSome, nat_lt}
+use Rattle.std.proofs.Common.{◌≡◌, ℕ, Bool, true, false, not, List, [], ◌∷◌, filter, Option, Some, None, refl, sym, ◌∙◌, ap, cond, subst, true≢false, IfSome, nat_lt}
 use Rattle.std.specs.Bool.{Decides}
-use Rattle.std.specs.List.{find, remove}
+use Rattle.std.specs.Cmp.{both_ways}
+use Rattle.std.specs.List.{find}
 use Rattle.std.specs.Map.{values_of}
-use Rattle.std.specs.Option.{option_copied, unwrap_or}
+use Rattle.std.specs.Option.{unwrap_or}
 use Rattle.pe_features.specs.Features.{feature_number}
 use Rattle.pe_store.specs.declared.entry.Entry.{Entry}
 use Rattle.pe_store.specs.declared.place.Place.{Place}
-use Rattle.pe_store.specs.Entries.{StoreValue, dismissals_of, pair_of, is_of, entry_of, without, put_entry, IsOnePerPair}
+use Rattle.pe_store.specs.Entries.{StoreValue, dismissals_of, pair_of, is_of, entry_of, without, put_entry}
 use Rattle.pe_store.specs.Numbers.{number_of, IsChangedFor}
 use Rattle.pe_store.specs.Pairs.{Pair, is_same_pair}
 use Rattle.pe_store.specs.Places.{PlacedEntries, row_at, HasRow}
@@ -18,6 +19,9 @@ module _ (pairs : (p q : Pair) → Decides (is_same_pair p q) (p ≡ q)) where
 
   pub same-as : (p q r : Pair) → is_same_pair p q ≡ true → is_same_pair q r ≡ is_same_pair p r
   same-as p q r h = let e : p ≡ q = (pairs p q).0 h in ap (λ (x : Pair). is_same_pair x r) (sym e)
+
+  pub same-turned : (p q : Pair) → is_same_pair p q ≡ is_same_pair q p
+  same-turned p q = both_ways (is_same_pair p q) (is_same_pair q p) (λ h. (pairs q p).1 (sym ((pairs p q).0 h))) (λ h. (pairs p q).1 (sym ((pairs q p).0 h)))
 
   pub same-apart : (p q r : Pair) → is_same_pair p q ≡ false → is_same_pair p r ≡ true → is_same_pair q r ≡ false
   same-apart p q r h k = by_test (is_same_pair q r) refl
@@ -56,106 +60,16 @@ module _ (pairs : (p q : Pair) → Decides (is_same_pair p q) (p ≡ q)) where
       by_pair true is rest = gone (is_same_pair p q) refl (sym (same-as (pair_of e) p q is)) rest
       by_pair false is rest = kept (is_same_pair p q) (is_same_pair (pair_of e) q) refl refl is rest
 
-  -- ---- one entry for each pair
+  -- ---- nothing to take out
 
-  none-filtered : (test : Entry → Bool) (p : Pair) (es : List Entry) → entry_of es p ≡ None → entry_of (filter test es) p ≡ None
-  unfolding entry_of
-  none-filtered test p [] h = refl
-  none-filtered test p (e ∷ es) h = by_of (is_of p e) refl h (none-filtered test p es)
-    where
-      by_test : (b : Bool) → is_of p e ≡ false → find (is_of p) (filter test es) ≡ None → find (is_of p) (cond b (e ∷ filter test es) (filter test es)) ≡ None
-      by_test true is rest = rw is rest
-      by_test false is rest = rest
-
-      by_of : (b : Bool) → is_of p e ≡ b → cond b (Some e) (find (is_of p) es) ≡ None → (find (is_of p) es ≡ None → find (is_of p) (filter test es) ≡ None)
-          → find (is_of p) (cond (test e) (e ∷ filter test es) (filter test es)) ≡ None
-      by_of true is h rest = cc
-      by_of false is h rest = by_test (test e) is (rest h)
-
-  pub one-filtered : (test : Entry → Bool) (es : List Entry) → IsOnePerPair es → IsOnePerPair (filter test es)
-  one-filtered test [] h = tt
-  one-filtered test (e ∷ es) h = by_test (test e) (one-filtered test es h.1)
-    where
-      by_test : (b : Bool) → IsOnePerPair (filter test es) → IsOnePerPair (cond b (e ∷ filter test es) (filter test es))
-      by_test true rest = (none-filtered test (pair_of e) es h.0, rest)
-      by_test false rest = rest
-
-  pub one-without : (p : Pair) (es : List Entry) → IsOnePerPair es → IsOnePerPair (without p es)
-  unfolding without
-  one-without p es h = one-filtered (λ e. not (is_of p e)) es h
-
-  -- an entry is that of its pair
-  pub own-at : (es : List Entry) (i : ℕ) (e : Entry) → IsOnePerPair es → slice_get es i ≡ Some e → entry_of es (pair_of e) ≡ Some e
-  unfolding entry_of
-  own-at [] i e one h = cc
-  own-at (x ∷ es) zero e one h = let is : x ≡ e = cc in rw (is, same-self (pair_of e)) refl
-  own-at (x ∷ es) (suc i) e one h = by_same (is_same_pair (pair_of x) (pair_of e)) refl (own-at es i e one.1 h) one.0
-    where
-      by_same : (b : Bool) → is_same_pair (pair_of x) (pair_of e) ≡ b → find (is_of (pair_of e)) es ≡ Some e → find (is_of (pair_of x)) es ≡ None
-          → cond b (Some x) (find (is_of (pair_of e)) es) ≡ Some e
-      by_same false is here none = here
-      by_same true is here none =
-          let p : pair_of x ≡ pair_of e = (pairs (pair_of x) (pair_of e)).0 is in
-          let k : find (is_of (pair_of e)) es ≡ None = ap (λ (q : Pair). find (is_of q) es) (sym p) ∙ none in cc
-
-  pub own-copied : (es : List Entry) (i : ℕ) (r : Option (Bor Entry)) → IsOnePerPair es → option_copied r ≡ slice_get es i → IfSome r (λ e. entry_of es (pair_of e.now) ≡ Some e.now)
-  own-copied es i None one h = tt
-  own-copied es i (Some e) one h = own-at es i e.now one (sym h)
-
-  -- ---- how many are left
-
-  pub shorter-without : (p : Pair) (es : List Entry) → length (without p es) ≤ length es
-  unfolding without
-  shorter-without p [] = omega arith
-  shorter-without p (e ∷ es) = by_of (is_of p e) (shorter-without p es)
-    where
-      by_of : (b : Bool) → length (filter (λ e. not (is_of p e)) es) ≤ length es → length (cond (not b) (e ∷ filter (λ e. not (is_of p e)) es) (filter (λ e. not (is_of p e)) es)) ≤ suc (length es)
-      by_of true rest = omega arith
-      by_of false rest = omega arith
-
-  pub fewer-without : (p : Pair) (es : List Entry) (e : Entry) → entry_of es p ≡ Some e → length (without p es) < length es
+  pub without-none : (p : Pair) (es : List Entry) → entry_of es p ≡ None → without p es ≡ es
   unfolding entry_of without
-  fewer-without p [] e h = cc
-  fewer-without p (x ∷ es) e h = by_of (is_of p x) h (fewer-without p es e) (shorter-without p es)
-    where
-      by_of : (b : Bool) → cond b (Some x) (find (is_of p) es) ≡ Some e → (find (is_of p) es ≡ Some e → length (filter (λ e. not (is_of p e)) es) < length es) → length (filter (λ e. not (is_of p e)) es) ≤ length es
-          → length (cond (not b) (x ∷ filter (λ e. not (is_of p e)) es) (filter (λ e. not (is_of p e)) es)) < suc (length es)
-      by_of true h rest le = omega arith
-      by_of false h rest le = let k = rest h in omega arith
-
-  -- ---- the entry at a place, taken out
-
-  none-of : (p : Pair) (es : List Entry) → entry_of es p ≡ None → filter (λ e. not (is_of p e)) es ≡ es
-  unfolding entry_of
-  none-of p [] h = refl
-  none-of p (e ∷ es) h = by_of (is_of p e) h (none-of p es)
+  without-none p [] h = refl
+  without-none p (e ∷ es) h = by_of (is_of p e) h (without-none p es)
     where
       by_of : (b : Bool) → cond b (Some e) (find (is_of p) es) ≡ None → (find (is_of p) es ≡ None → filter (λ e. not (is_of p e)) es ≡ es) → cond (not b) (e ∷ filter (λ e. not (is_of p e)) es) (filter (λ e. not (is_of p e)) es) ≡ e ∷ es
       by_of true h rest = cc
       by_of false h rest = ap (λ (xs : List Entry). e ∷ xs) (rest h)
-
-  pub taken-at : (es : List Entry) (i : ℕ) (e : Entry) → IsOnePerPair es → slice_get es i ≡ Some e → remove es i ≡ without (pair_of e) es
-  unfolding without
-  taken-at [] i e one h = cc
-  taken-at (x ∷ es) zero e one h =
-      let is : x ≡ e = cc in
-      subst (λ (e : Entry). es ≡ cond (not (is_of (pair_of e) x)) (x ∷ filter (λ y. not (is_of (pair_of e) y)) es) (filter (λ y. not (is_of (pair_of e) y)) es)) is
-      (rw (same-self (pair_of x)) (sym (none-of (pair_of x) es one.0)))
-  taken-at (x ∷ es) (suc i) e one h = by_same (is_same_pair (pair_of x) (pair_of e)) refl (taken-at es i e one.1 h) (own-at es i e one.1 h)
-    where
-      by_same : (b : Bool) → is_same_pair (pair_of x) (pair_of e) ≡ b → remove es i ≡ filter (λ y. not (is_of (pair_of e) y)) es → entry_of es (pair_of e) ≡ Some e
-          → x ∷ remove es i ≡ cond (not b) (x ∷ filter (λ y. not (is_of (pair_of e) y)) es) (filter (λ y. not (is_of (pair_of e) y)) es)
-      by_same false is rest own = ap (λ (xs : List Entry). x ∷ xs) rest
-      by_same true is rest own =
-          let same : pair_of x ≡ pair_of e = (pairs (pair_of x) (pair_of e)).0 is in
-          let none : entry_of es (pair_of e) ≡ None = ap (entry_of es) (sym same) ∙ one.0 in
-          let both : ◌≡◌ {A = Option Entry} (Some e) None = sym own ∙ none in
-          cc
-
-  -- nothing is of a pair that has no entry
-  pub without-none : (p : Pair) (es : List Entry) → entry_of es p ≡ None → without p es ≡ es
-  unfolding without
-  without-none p es h = none-of p es h
 
   -- ---- the row of a pair, taken out
 
@@ -166,10 +80,6 @@ module _ (pairs : (p q : Pair) → Decides (is_same_pair p q) (p ≡ q)) where
       → IfSome r (λ e. values_of new ≡ without (pair_of e) (values_of old)) → values_of new ≡ without q (values_of old)
   list-cleared q old new p r h is holds =
       row-taken q old p r (λ e. values_of new ≡ without (pair_of e) (values_of old)) h is holds ∙ ap (λ (x : Pair). without x (values_of old)) h.of_pair
-
-  pub fewer-cleared : (q : Pair) (old new : PlacedEntries) (p : Place) (r : Option Entry) → HasRow old p q → r ≡ row_at old p
-      → IfSome r (λ e. length new + 1 ≡ length old) → length new + 1 ≡ length old
-  fewer-cleared q old new p r h is holds = row-taken q old p r (λ e. length new + 1 ≡ length old) h is holds
 
   -- a setting is found for its pair, and every other pair has what it had
   pub found-put : (n : Entry) (q : Pair) (es : List Entry) → entry_of (put_entry n es) q ≡ cond (is_same_pair (pair_of n) q) (Some n) (entry_of es q)

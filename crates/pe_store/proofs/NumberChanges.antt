@@ -69,10 +69,6 @@ changed-for f k w n old new self is same h q =
     ∙ ap (λ (i : ℕ). cond (i == feature_number q.0 && is_same_key k q.1) w (number_at old (feature_number q.0) q.1)) is
     ∙ ap (λ (lists : List KeyNumbers). cond (feature_number f == feature_number q.0 && is_same_key k q.1) w (number_at lists (feature_number q.0) q.1)) same
 
-pub changed-length : (n : ℕ) (k : Key) (w : Option ℕ) (old new : List KeyNumbers) → IsChangedAt n k w old new → length new ≡ length old
-unfolding IsChangedAt
-changed-length n k w old new h = h.0
-
 none-in : (xs : List KeyNumbers) (i : ℕ) → AllByRecursion (λ (x : KeyNumbers). x ≡ []) xs → get_or xs i [] ≡ []
 none-in [] i h = refl
 none-in (x ∷ xs) zero h = h.0

@@ -13,6 +13,7 @@ use Rattle.pe_store.specs.declared.place.Place.{Place}
 use Rattle.pe_store.specs.Entries.{pair_of}
 use Rattle.pe_store.specs.Pairs.{Pair, is_same_pair}
 use Rattle.pe_store.specs.Places.{place_cmp, IsNumbered}
+use Rattle.pe_store.proofs.Lists.{same-turned}
 
 pub place-total : IsTotalOrder place_cmp
 place-total = then_total (on_total (λ (p : Place). p.feature) nat_cmp_total) (on_total (λ (p : Place). p.serial) nat_cmp_total)
@@ -81,9 +82,6 @@ module _ (decides : (p q : Pair) → Decides (is_same_pair p q) (p ≡ q)) where
         → IsNumbered rows' numbers' next'
     changed p q w rows' numbers' next' place feature pair later low at-rows at-numbers = record { own = own; known = known }
       where
-        turned : (a b : Pair) → is_same_pair a b ≡ is_same_pair b a
-        turned a b = both_ways (is_same_pair a b) (is_same_pair b a) (λ h. (decides b a).1 (sym ((decides a b).0 h))) (λ h. (decides a b).1 (sym ((decides b a).0 h)))
-
         own : (r : Place) (e : Entry) → rows' r ≡ Some e → (r.feature ≡ feature_number e.feature) × (numbers' (pair_of e) ≡ Some r.serial) × (r.serial < next')
         own r e there = by_test (is_at (place_cmp p) r) refl (at-rows r)
           where
@@ -100,7 +98,7 @@ module _ (decides : (p q : Pair) → Decides (is_same_pair p q) (p ≡ q)) where
             by_test false apart row =
                 let there' : rows r ≡ Some e = sym row ∙ there in
                 let old = is.own r e there' in
-                let test : is_same_pair q (pair_of e) ≡ false = turned q (pair_of e) ∙ sym (place r e there') ∙ apart in
+                let test : is_same_pair q (pair_of e) ≡ false = same-turned decides q (pair_of e) ∙ sym (place r e there') ∙ apart in
                 (old.0, at-numbers (pair_of e) ∙ rw test old.1, omega (arith, old.2))
 
         known : (r : Pair) (n : ℕ) → numbers' r ≡ Some n → (e : Entry) × (rows' (record { feature = feature_number r.0; serial = n }) ≡ Some e) × (pair_of e ≡ r)
@@ -119,5 +117,5 @@ module _ (decides : (p q : Pair) → Decides (is_same_pair p q) (p ≡ q)) where
             by_test false apart number =
                 let old = is.known r n (sym number ∙ there) in
                 let test : is_at (place_cmp p) (record { feature = feature_number r.0; serial = n }) ≡ false =
-                place (record { feature = feature_number r.0; serial = n }) old.0 old.1 ∙ ap (λ (x : Pair). is_same_pair x q) old.2 ∙ turned r q ∙ apart in
+                place (record { feature = feature_number r.0; serial = n }) old.0 old.1 ∙ ap (λ (x : Pair). is_same_pair x q) old.2 ∙ same-turned decides r q ∙ apart in
                 (old.0, at-rows (record { feature = feature_number r.0; serial = n }) ∙ rw test old.1, old.2)

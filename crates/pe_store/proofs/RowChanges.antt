@@ -1,5 +1,5 @@
 -- What the rows of a store say of the list of its entries, and what a change of one row does.
-use Rattle.std.proofs.Common.{◌≡◌, ℕ, ◌+◌, ◌<◌, Bool, true, false, ◌&&◌, ◌||◌, not, cond, List, [], ◌∷◌, filter, Option, Some, None, refl, sym, ◌∙◌, ap, subst, arith, true≢false, nat_lt, Result, Ok, Err, OnOk, OnErr, IfNone}
+use Rattle.std.proofs.Common.{◌≡◌, ℕ, ◌+◌, ◌<◌, Bool, true, false, ◌&&◌, ◌||◌, not, cond, List, [], ◌∷◌, filter, Option, Some, None, refl, sym, ◌∙◌, ap, subst, arith, true≢false, nat_lt}
 use Rattle.std.specs.Bool.{Decides}
 use Rattle.std.specs.List.{find, AllByRecursion}
 use Rattle.std.specs.List.Sorted.{IsStrictlySortedBy}
@@ -35,7 +35,7 @@ without-of : (q : Pair) (es : List Entry) → filter (λ e. not (is_of q e)) es 
 unfolding without
 without-of q es = refl
 
-none-found : (q : Pair) (rows : PlacedEntries) → AllByRecursion (λ (r : Place × Entry). is_of q r.1 ≡ false) rows → find (is_of q) (values_of rows) ≡ None
+pub none-found : (q : Pair) (rows : PlacedEntries) → AllByRecursion (λ (r : Place × Entry). is_of q r.1 ≡ false) rows → find (is_of q) (values_of rows) ≡ None
 none-found q [] h = refl
 none-found q (r ∷ rows) h = rw h.0 (none-found q rows h.1)
 
@@ -152,13 +152,6 @@ module _ (pairs : (p q : Pair) → Decides (is_same_pair p q) (p ≡ q)) (rows :
       timed = put-ending is_moment_of rows' moments moments' at-rows is.timed put-moment;
       paged = put-ending is_page_of rows' pages pages' at-rows is.paged put-page;
     }
-
-    same-rows : (r : Place) → row r ≡ cond (is_at (place_cmp fresh) r) None (row r)
-    same-rows r = by_test (is_at (place_cmp fresh) r) refl
-      where
-        by_test : (b : Bool) → is_at (place_cmp fresh) r ≡ b → row r ≡ cond b None (row r)
-        by_test true h = ap row (sym (place-exact fresh r h)) ∙ fresh-none
-        by_test false h = refl
 
     pub rows-kept : (serials' : List KeyNumbers) (moments' pages' : List Ending) → IsChangedFor (pair_of new) None serials serials'
         → AreEndings is_moment_of row moments' → AreEndings is_page_of row pages' → IsRows rows serials' moments' pages' next
@@ -306,10 +299,6 @@ module _ (pairs : (p q : Pair) → Decides (is_same_pair p q) (p ≡ q)) (rows :
       paged = change-ending is_page_of rows' pages pages' at-rows is.paged change-page;
     }
 
-  pub rows-same : (moments' pages' : List Ending) → moments' ≡ moments → pages' ≡ pages → IsRows rows serials moments' pages' next
-  rows-same moments' pages' same-moments same-pages =
-      subst (λ (ends : List Ending). IsRows rows serials ends pages' next) (sym same-moments) (subst (λ (ends : List Ending). IsRows rows serials moments ends next) (sym same-pages) is)
-
 pub replaced-pair : (rows self : PlacedEntries) (p : Place) (q : Pair) (e : Entry) → rows ≡ self → HasRow self p q → row_at rows p ≡ Some e → pair_of e ≡ q
 replaced-pair rows self p q e same h there =
     let row : row_at self p ≡ Some e = subst (λ (es : PlacedEntries). row_at es p ≡ Some e) same there in
@@ -346,15 +335,3 @@ changed-to-none pairs q s new same none r = ap (λ (lists : List KeyNumbers). nu
     by_test : (b : Bool) → is_same_pair q r ≡ b → number_of s r ≡ cond b None (number_of s r)
     by_test true h = ap (number_of s) (sym ((pairs q r).0 h)) ∙ none
     by_test false h = refl
-
-pub on-err : {T E P : Type 0} (r : Result T E) → P → OnErr r P
-on-err (Ok x) p = tt
-on-err (Err e) p = p
-
-pub on-ok : {T E P : Type 0} (r : Result T E) → P → OnOk r P
-on-ok (Ok x) p = p
-on-ok (Err e) p = tt
-
-pub if-none : {T P : Type 0} (r : Option T) → P → IfNone r P
-if-none None p = p
-if-none (Some x) p = tt

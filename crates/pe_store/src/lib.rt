@@ -14,3 +14,6 @@ pub use key::{Key, Life};
 pub use law::same_pairs_are_one;
 pub use numbers::PairNumbers;
 pub use store::Store;
+
+#[cfg(test)]
+mod tests;

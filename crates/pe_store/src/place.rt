@@ -25,6 +25,21 @@ pub(crate) struct Ending {
     pub(crate) place: Place,
 }
 
+impl Ending {
+    // The least of the endings by a number.
+    pub(crate) fn first_by(by: u64) -> Ending
+        ensures { result ≡ record { by = by; place = record { feature = 0; serial = 0 } } }
+    {
+        Ending {
+            by,
+            place: Place {
+                feature: 0,
+                serial: 0,
+            },
+        }
+    }
+}
+
 // What ends the entries of a store, and where they stand.
 #[derive(Drop)]
 pub(crate) struct Endings {

@@ -1,10 +1,12 @@
 //! Entries at their places, with the numbers of their pairs and what ends them.
-ghost use Rattle.std.specs.Prelude.{◌≡◌, ◌+◌, [], None, Some, IfSome, IfErr, IfNone, OnOk, OnErr, length, if◌then◌else◌};
+ghost use Rattle.std.specs.Prelude.{◌≡◌, ℕ, ◌+◌, ◌≤◌, ◌++◌, map, option_to_list, [], None, Some, slice_get, is_some, MatchOption, IfSome, IfOk, IfErr, IfNone, OnOk, OnErr, length, if◌then◌else◌};
 ghost use Rattle.std.specs.BTreeMap.{insert_entry, is_at};
 ghost use Rattle.std.specs.List.Sorted.{IsStrictlySortedBy};
 ghost use Rattle.std.specs.Map.{keys_of, values_of};
 ghost use Rattle.std.specs.Option.{option_copied};
-ghost use Rattle.pe_store.specs.Entries.{pair_of, entry_of, put_entry, without};
+ghost use Rattle.pe_store.specs.Due.{IsDue, IsFirstEnd};
+ghost use Rattle.pe_store.specs.Entries.{pair_of, entry_of, put_entry, without, IsOnePerPair};
+ghost use Rattle.pe_store.specs.Pages.{pairs_of_page};
 ghost use Rattle.pe_store.specs.Numbers.{number_of, IsChangedFor};
 ghost use Rattle.pe_store.specs.declared.entry.Entry.{Entry};
 ghost use Rattle.pe_store.specs.declared.place.Place.{Place};
@@ -14,7 +16,8 @@ use crate::entry::Entry;
 use crate::key::Key;
 use crate::law::same_pairs_are_one;
 use crate::numbers::PairNumbers;
-use crate::place::{Endings, Place, drop_end, ends_alike, put_end};
+use crate::place::{Ending, Endings, Place, drop_end, ends_alike, put_end};
+use pe_base::DocNo;
 use pe_features::Feature;
 use std::alloc::{AllocError, Global};
 use std::collections::BTreeMap;
@@ -101,6 +104,16 @@ fn change_end(
     Ok(())
 }
 
+// Puts the pair of an entry, if there is one, behind the others. `AllocError` where memory wants.
+fn put_pair(found: Option<&Entry>, pairs: &mut Vec<(Feature, Key)>) -> Result<(), AllocError>
+    ensures { OnOk result (pairs.new.items ≡ pairs.old.items ++ map pair_of (option_to_list (option_copied found.entry))) }
+{
+    if let Some(entry) = found {
+        pairs.push((entry.feature, entry.key.copy()?))?;
+    }
+    Ok(())
+}
+
 // Lets an entry go that stood at the place.
 fn let_go(_entry: Option<Entry>) {}
 
@@ -178,7 +191,7 @@ impl Rows {
     }
 
     // Puts an entry of a pair that has none behind those of its feature.
-    pub(crate) fn insert(&mut self, entry: Entry) -> Result<(), AllocError>
+    fn insert(&mut self, entry: Entry) -> Result<(), AllocError>
         requires absent { entry_of (values_of self.old) (pair_of entry) ≡ None }
         ensures list { OnOk result (values_of self.new ≡ put_entry entry (values_of self.old)) }
         ensures len { OnOk result (length self.new ≡ length self.old + 1) }
@@ -206,7 +219,7 @@ impl Rows {
     }
 
     // Puts an entry in the place of that of its pair.
-    pub(crate) fn replace(&mut self, place: Place, entry: Entry) -> Result<(), AllocError>
+    fn replace(&mut self, place: Place, entry: Entry) -> Result<(), AllocError>
         requires there { HasRow self.old place (pair_of entry) }
         ensures list { OnOk result (values_of self.new ≡ put_entry entry (values_of self.old)) }
         ensures len { OnOk result (length self.new ≡ length self.old) }
@@ -223,6 +236,70 @@ impl Rows {
                 let_go(Some(entry));
                 Err(AllocError)
             }
+        }
+    }
+
+    // The first ending by a moment up to this one.
+    pub(crate) fn first_due(&self, upto: u64) -> Option<Ending>
+        ensures none { IfNone result (IsDue (values_of self.now) upto None) }
+        ensures some { IfSome result (λ first. IsFirstEnd self.now first) }
+        ensures low { IfSome result (λ first. first.by ≤ upto) }
+    {
+        let first = *self.endings.moments.first()?;
+        if first.by > upto {
+            return None;
+        }
+        Some(first)
+    }
+
+    // The entry that stands behind so many others.
+    pub(crate) fn nth(&self, index: usize) -> Option<&Entry>
+        ensures value { option_copied result ≡ slice_get (values_of self.now) index }
+        ensures own { IfSome result (λ e. entry_of (values_of self.now) (pair_of e.now) ≡ Some e.now) }
+    {
+        same_pairs_are_one();
+        self.map.values().nth(index)
+    }
+
+    // How many entries stand before a place.
+    pub(crate) fn index_of(&self, place: Place) -> usize
+        ensures { (i : ℕ) (e : Entry) → slice_get self.now i ≡ Some (place, e) → result ≡ i }
+    {
+        self.map.range(..place).count()
+    }
+
+    // The pairs of the entries that hold while a document is current, in order. `AllocError` where memory wants.
+    pub(crate) fn pairs_of_page(
+        &self,
+        alloc: Global,
+        doc: DocNo,
+    ) -> Result<Vec<(Feature, Key)>, AllocError>
+        ensures pairs { IfOk result (λ pairs. pairs.items ≡ pairs_of_page doc (values_of self.now)) }
+        ensures one_per_pair { OnOk result (IsOnePerPair (values_of self.now)) }
+    {
+        same_pairs_are_one();
+        let by = u64::from(doc.get());
+        let mut pairs = Vec::new(alloc);
+        for ending in self
+            .endings
+            .pages
+            .range(Ending::first_by(by)..Ending::first_by(by + 1))
+        {
+            put_pair(self.at(ending.place), &mut pairs)?;
+        }
+        Ok(pairs)
+    }
+
+    // Puts an entry in the place of that of its pair, which is given, else behind those of its feature.
+    pub(crate) fn put(&mut self, place: Option<Place>, entry: Entry) -> Result<(), AllocError>
+        requires place { MatchOption place (entry_of (values_of self.old) (pair_of entry) ≡ None) (λ p. HasRow self.old p (pair_of entry)) }
+        ensures list { OnOk result (values_of self.new ≡ put_entry entry (values_of self.old)) }
+        ensures len { OnOk result (length self.new ≡ (if is_some place then length self.old else length self.old + 1)) }
+        ensures err { OnErr result (self.new ≡ self.old) }
+    {
+        match place {
+            Some(place) => self.replace(place, entry),
+            None => self.insert(entry),
         }
     }
 

@@ -2,7 +2,8 @@ use Rattle.std.proofs.Common.{refl, subst, Some}
 use Rattle.pe_store.specs.declared.key.Key.{Key}
 use Rattle.pe_store.specs.Entries.{pair_of}
 use Rattle.pe_store.specs.Numbers.{IsChangedFor}
-use Rattle.pe_store.proofs.RowChanges.{changed-to-none, changed-back, on-err}
+use Rattle.pe_store.proofs.Results.{on-err}
+use Rattle.pe_store.proofs.RowChanges.{changed-to-none, changed-back}
 use Rattle.pe_store.proofs.rows.note.Goals as goal
 
 pub returns-in_err-key-clause-serials_kept : goal.returns-in_err-key-clause-serials_kept

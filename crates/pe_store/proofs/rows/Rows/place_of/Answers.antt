@@ -3,7 +3,8 @@ use Rattle.std.specs.Map.{values_of}
 use Rattle.pe_store.specs.Entries.{entry_of}
 use Rattle.pe_store.specs.Numbers.{number_of}
 use Rattle.pe_store.specs.Places.{PlacedEntries}
-use Rattle.pe_store.proofs.RowChanges.{found-none, has-row, if-none}
+use Rattle.pe_store.proofs.Results.{if-none}
+use Rattle.pe_store.proofs.RowChanges.{found-none, has-row}
 use Rattle.pe_store.proofs.rows.Rows.place_of.Goals as goal
 
 pub returns-in_err-serial-clause-none : goal.returns-in_err-serial-clause-none

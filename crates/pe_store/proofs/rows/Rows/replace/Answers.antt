@@ -3,7 +3,8 @@ use Rattle.std.specs.Map.{values_of}
 use Rattle.pe_store.specs.declared.entry.Entry.{Entry}
 use Rattle.pe_store.specs.Entries.{pair_of, put_entry}
 use Rattle.pe_store.specs.Places.{PlacedEntries, row_at}
-use Rattle.pe_store.proofs.RowChanges.{rows-replaced, list-replaced, replaced-pair, on-ok}
+use Rattle.pe_store.proofs.Results.{on-ok}
+use Rattle.pe_store.proofs.RowChanges.{rows-replaced, list-replaced, replaced-pair}
 use Rattle.pe_store.proofs.rows.Rows.replace.Goals as goal
 use Rattle.pe_store.proofs.rows.Rows.replace.Goals.{in-Ok, in-Err}
 
