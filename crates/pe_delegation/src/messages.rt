@@ -1,0 +1,134 @@
+//! The messages of all pages.
+ghost use Rattle.std.specs.Prelude.{◌≡◌, ◌↔◌, ◌<◌, ◌≤◌, ◌+◌, ◌++◌, ℕ, true, [], ◌∷◌, IfOk, OnOk, OnErr, Some, Err, option_map};
+ghost use Rattle.std.specs.Result.{result_err};
+ghost use Rattle.pe_base.specs.declared.limits.TheConstants.{MESSAGE_LIMIT};
+ghost use Rattle.pe_delegation.specs.Posted.{message_of, was_given, deliver_fault, waiting_count, without, delivery_of, IsInOrder};
+
+use crate::addressed::Addressed;
+use crate::delivery::{Delivery, delivery_of};
+use crate::given::was_given;
+use crate::message::{DeliverFault, Message, PostFault};
+use crate::waiting::Waiting;
+use pe_arena::DocRef;
+use pe_base::{FrameNo, MESSAGE_LIMIT, MessageNo, Steps};
+use pe_features::Capability;
+use pe_frames::Frames;
+use pe_origin::Origin;
+use std::alloc::Global;
+use std::marker::Model;
+use std::sync::ledger::Ledger;
+
+/// The delegating messages of a session. A message waits until a delivery names it, whatever comes of
+/// that, and also where its page is closed. A message is found by its number, at the cost of a logarithm
+/// of how many wait, or were ever posted.
+#[derive(Drop)]
+pub struct Messages {
+    given: Vec<MessageNo>,
+    waiting: Waiting,
+}
+
+impl Model for Messages {
+    ghost use Rattle.pe_delegation.specs.Posted.{Posted};
+
+    ghost Value = { Posted };
+
+    ghost use Rattle.pe_delegation.specs.Kept.{IsKept};
+
+    ghost view = { λ m. record { waiting = m.waiting; given = m.given.items } };
+
+    ghost invariant = { λ m. IsKept m.waiting m.given.items };
+}
+
+impl Messages {
+    /// No message.
+    pub fn new(alloc: Global) -> Messages
+        ensures { result ≡ record { waiting = []; given = [] } }
+    {
+        Messages {
+            given: Vec::new(alloc),
+            waiting: Waiting::new(alloc),
+        }
+    }
+
+    /// How many messages of the page wait: those that no delivery settled.
+    pub fn waiting(&self, page: FrameNo) -> u32
+        ensures value { result ≡ waiting_count page self.now.waiting }
+        ensures bound { result ≤ MESSAGE_LIMIT }
+    {
+        self.waiting.count(page)
+    }
+
+    /// The waiting message of this number. The refusals are those of `deliver`.
+    pub fn find(&self, message: MessageNo) -> Result<&Message, DeliverFault>
+        ensures found { IfOk result (λ m. message_of self.now.waiting message ≡ Some m.now) }
+        ensures fault { result_err result ≡ deliver_fault self.now message }
+        ensures order { IsInOrder self.now.waiting }
+    {
+        match self.waiting.get(message) {
+            Some(found) => Ok(found),
+            None if was_given(&self.given, message) => Err(DeliverFault::Settled),
+            None => Err(DeliverFault::Unknown),
+        }
+    }
+
+    /// Posts a message to the document, for a document of the origin alone. It waits from then on.
+    ///
+    /// Errors: `TooMany` exactly where 256 messages of the page wait; `Memory` where memory wants.
+    pub fn post(
+        &mut self,
+        no: MessageNo,
+        page: FrameNo,
+        target: DocRef,
+        origin: Origin,
+        capability: Capability,
+    ) -> Result<(), PostFault>
+        requires { (k : ℕ) → was_given self.old.given k ≡ true → k < no }
+        ensures waiting { OnOk result (self.new.waiting ≡ self.old.waiting ++ (no, record { page = page; target = target; origin = origin; capability = capability }) ∷ []) }
+        ensures given { OnOk result (self.new.given ≡ self.old.given ++ no ∷ []) }
+        ensures too_many { (result ≡ Err PostFault.TooMany) ↔ (waiting_count page self.old.waiting ≡ MESSAGE_LIMIT) }
+        ensures err { OnErr result (self.new ≡ self.old) }
+    {
+        if self.waiting.count(page) == MESSAGE_LIMIT {
+            return Err(PostFault::TooMany);
+        }
+        if self.given.reserve(1).is_err() {
+            return Err(PostFault::Memory);
+        }
+        let message = Message {
+            page,
+            target,
+            origin,
+            capability,
+        };
+        if self.waiting.put(no, message).is_err() {
+            return Err(PostFault::Memory);
+        }
+        self.given.push_reserved(no);
+        Ok(())
+    }
+
+    /// Delivers the message, which is settled then, whatever comes of it: it is dropped as `Gone` exactly
+    /// where the frame of its target does not show that document any more, else as `OtherOrigin` exactly
+    /// where the document is not of the origin that the message names. One tick. It takes no memory.
+    ///
+    /// Errors, in order: `Unknown` where no message of this number was posted; `Settled` where it was
+    /// delivered or dropped before.
+    pub fn deliver<D: Addressed, L: Ledger>(
+        &mut self,
+        message: MessageNo,
+        frames: &Frames<D>,
+        steps: &mut Steps<L>,
+    ) -> Result<Delivery, DeliverFault>
+        ensures delivery { IfOk result (λ d. Some d ≡ option_map (delivery_of D.doc_no D.origin_of frames.now.entries) (message_of self.old.waiting message)) }
+        ensures waiting { OnOk result (self.new.waiting ≡ without message self.old.waiting) }
+        ensures given { OnOk result (self.new.given ≡ self.old.given) }
+        ensures cost { OnOk result (steps.new ≡ steps.old + 1) }
+        ensures fault { result_err result ≡ deliver_fault self.old message }
+        ensures err { OnErr result ((self.new ≡ self.old) × (steps.new ≡ steps.old)) }
+    {
+        let found = self.find(message)?;
+        let delivery = delivery_of(found, frames, steps);
+        self.waiting.take(message);
+        Ok(delivery)
+    }
+}
