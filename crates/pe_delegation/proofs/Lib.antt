@@ -1,0 +1,4 @@
+pub mod Counting
+pub mod Keeping
+pub mod Listed
+pub mod Numbers

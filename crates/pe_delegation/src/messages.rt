@@ -100,9 +100,9 @@ impl Messages {
             origin,
             capability,
         };
-        if self.waiting.put(no, message).is_err() {
+        let Ok(()) = self.waiting.put(no, message) else {
             return Err(PostFault::Memory);
-        }
+        };
         self.given.push_reserved(no);
         Ok(())
     }

@@ -31,6 +31,28 @@ impl Model for Waiting {
     ghost invariant = { λ w. IsWaiting w.messages.entries (count_of w.pages) };
 }
 
+// Puts a message behind the others. `AllocError` where memory wants.
+fn push_in(
+    messages: &mut BTreeMap<MessageNo, Message>,
+    no: MessageNo,
+    message: Message,
+) -> Result<(), AllocError>
+    requires { (k : ℕ) → IsSome (message_of messages.old.entries k) → k < no }
+    ensures ok { OnOk result (messages.new.entries ≡ messages.old.entries ++ (no, message) ∷ []) }
+    ensures order { IsInOrder messages.new.entries }
+    ensures err { OnErr result (messages.new.entries ≡ messages.old.entries) }
+{
+    messages.insert(no, message)?;
+    Ok(())
+}
+
+// The page of a message that is let go.
+fn page_of(message: Message) -> FrameNo
+    ensures { result ≡ message.page }
+{
+    message.page
+}
+
 impl Waiting {
     // No message.
     pub fn new(alloc: Global) -> Waiting
@@ -67,11 +89,13 @@ impl Waiting {
     {
         let page = message.page;
         self.pages.add(page)?;
-        if self.messages.insert(no, message).is_err() {
-            self.pages.take(page);
-            return Err(AllocError);
+        match push_in(&mut self.messages, no, message) {
+            Ok(()) => Ok(()),
+            Err(AllocError) => {
+                self.pages.take(page);
+                Err(AllocError)
+            }
         }
-        Ok(())
     }
 
     // Takes the message of the number out.
@@ -79,7 +103,7 @@ impl Waiting {
         ensures { self.new ≡ without no self.old }
     {
         if let Some(message) = self.messages.remove(&no) {
-            self.pages.take(message.page);
+            self.pages.take(page_of(message));
         }
     }
 }

@@ -1,0 +1,78 @@
+-- The numbers that were given: that they rise, and what a search by halves among them finds.
+use Rattle.std.proofs.Common.{◌≡◌, ℕ, ◌<◌, ◌≤◌, Bool, true, false, ◌||◌, List, [], ◌∷◌, ◌++◌, length, get_or, Result, Ok, Err, nat_eq, refl, sym, ap, ◌∙◌, arith, true≢false, inl, inr}
+use Rattle.std.specs.Result.{is_ok}
+use Rattle.std.specs.List.{AllByRecursion}
+use Rattle.std.specs.List.Sorted.{IsStrictlySortedBy, IsBinarySearchResult}
+use Rattle.std.specs.Ordering.{nat_cmp}
+use Rattle.std.specs.declared.cmp.Ordering.TheVariants.{Less}
+use Rattle.std.proofs.lemmas.Bool.{cases_lt}
+use Rattle.std.proofs.lemmas.Bool.Decides.{nat_tests}
+use Rattle.std.proofs.lemmas.List.{get_or_default}
+use Rattle.std.proofs.lemmas.List.Folds.{list_any_at, list_any_none}
+use Rattle.std.proofs.lemmas.List.Sorted.{searched}
+use Rattle.std.proofs.lemmas.Map.Keys.{non_decreasing_from_sorted}
+use Rattle.pe_delegation.specs.Posted.{was_given}
+use Rattle.pe_delegation.specs.Kept.{IsRising}
+
+same-number : (a b : ℕ) → a ≡ b → nat_eq b a ≡ true
+same-number a b h = grind (arith, nat_tests)
+
+below-other : (a n : ℕ) → a < n → nat_eq n a ≡ false
+below-other a n h = grind (arith, nat_tests)
+
+above-other : (a n : ℕ) → n < a → nat_eq n a ≡ false
+above-other a n h = grind (arith, nat_tests)
+
+-- a search by halves finds the numbers that were given
+pub searched-given : (ns : List ℕ) (n : ℕ) (r : Result ℕ ℕ) → IsBinarySearchResult (λ y. nat_cmp y n) ns r → IsRising ns → is_ok r ≡ was_given ns n
+unfolding was_given
+searched-given ns n (Ok i) h rising =
+    let found = searched ns n (Ok i) h (λ a b. non_decreasing_from_sorted ns rising a b 0) in
+    sym (list_any_at (nat_eq n) ns i 0 found.0 (same-number (get_or ns i 0) n found.1))
+searched-given ns n (Err i) h rising =
+    let parts = searched ns n (Err i) h (λ a b. non_decreasing_from_sorted ns rising a b 0) in
+    sym (list_any_none (nat_eq n) ns (λ k d lt. ap (nat_eq n) (get_or_default ns k d 0 lt) ∙ other k lt parts.1 parts.2))
+  where
+    other : (k : ℕ) → k < length ns → ((j : ℕ) → j < i → get_or ns j 0 < n) → ((j : ℕ) → i ≤ j → j < length ns → n < get_or ns j 0) → nat_eq n (get_or ns k 0) ≡ false
+    other k lt below above = elim (cases_lt k i) as (λ _. nat_eq n (get_or ns k 0) ≡ false) [
+      | inl e ↦ below-other (get_or ns k 0) n (below k e)
+      | inr e ↦ above-other (get_or ns k 0) n (above k e lt)
+    ]
+
+-- a number that was given stays one
+pub given-kept : (ns : List ℕ) (n k : ℕ) → was_given ns k ≡ true → was_given (ns ++ n ∷ []) k ≡ true
+unfolding was_given
+given-kept [] n k h = absurd (true≢false (sym h))
+given-kept (x ∷ ns) n k h = by_test (given-kept ns n k) (nat_eq k x) h
+  where
+    by_test : (was_given ns k ≡ true → was_given (ns ++ n ∷ []) k ≡ true) → (b : Bool) → b || was_given ns k ≡ true → b || was_given (ns ++ n ∷ []) k ≡ true
+    by_test rest true e = refl
+    by_test rest false e = rest e
+
+-- the number that is given last is one
+pub given-last : (ns : List ℕ) (n k : ℕ) → nat_eq k n ≡ true → was_given (ns ++ n ∷ []) k ≡ true
+unfolding was_given
+given-last [] n k h = ap (λ (b : Bool). b || false) h
+given-last (x ∷ ns) n k h = by_test (nat_eq k x) (given-last ns n k h)
+  where
+    by_test : (b : Bool) → was_given (ns ++ n ∷ []) k ≡ true → b || was_given (ns ++ n ∷ []) k ≡ true
+    by_test true rest = refl
+    by_test false rest = rest
+
+-- the numbers rise with one more that is above each
+pub rising-push : (ns : List ℕ) (n : ℕ) → IsRising ns → ((k : ℕ) → was_given ns k ≡ true → k < n) → IsRising (ns ++ n ∷ [])
+unfolding was_given IsStrictlySortedBy
+rising-push [] n rising below = (tt, tt)
+rising-push (x ∷ ns) n rising below =
+    (above ns rising.0 (below x (ap (λ (b : Bool). b || was_given ns x) (same-number x x refl))), rising-push ns n rising.1 (λ k given. below k (or-true (nat_eq k x) (was_given ns k) given)))
+  where
+    less : (a b : ℕ) → a < b → nat_cmp a b ≡ Less
+    less a b lt = grind (arith, nat_tests)
+
+    above : (ms : List ℕ) → AllByRecursion (λ y. nat_cmp x y ≡ Less) ms → x < n → AllByRecursion (λ y. nat_cmp x y ≡ Less) (ms ++ n ∷ [])
+    above [] a lt = (less x n lt, tt)
+    above (m ∷ ms) a lt = (a.0, above ms a.1 lt)
+
+    or-true : (b c : Bool) → c ≡ true → b || c ≡ true
+    or-true true c h = refl
+    or-true false c h = h
