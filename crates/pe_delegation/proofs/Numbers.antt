@@ -1,14 +1,14 @@
 -- The numbers that were given: that they rise, and what a search by halves among them finds.
 use Rattle.std.proofs.Common.{◌≡◌, ℕ, ◌<◌, ◌≤◌, Bool, true, false, ◌||◌, List, [], ◌∷◌, ◌++◌, length, get_or, Result, Ok, Err, nat_eq, refl, sym, ap, ◌∙◌, arith, true≢false, inl, inr}
 use Rattle.std.specs.Result.{is_ok}
-use Rattle.std.specs.List.{AllByRecursion}
+use Rattle.std.specs.List.{AllByRecursion, list_any}
 use Rattle.std.specs.List.Sorted.{IsStrictlySortedBy, IsBinarySearchResult}
 use Rattle.std.specs.Ordering.{nat_cmp}
 use Rattle.std.specs.declared.cmp.Ordering.TheVariants.{Less}
 use Rattle.std.proofs.lemmas.Bool.{cases_lt}
 use Rattle.std.proofs.lemmas.Bool.Decides.{nat_tests}
 use Rattle.std.proofs.lemmas.List.{get_or_default}
-use Rattle.std.proofs.lemmas.List.Folds.{list_any_at, list_any_none}
+use Rattle.std.proofs.lemmas.List.Folds.{list_any_at, list_any_none, list_any-append}
 use Rattle.std.proofs.lemmas.List.Sorted.{searched}
 use Rattle.std.proofs.lemmas.Map.Keys.{non_decreasing_from_sorted}
 use Rattle.pe_delegation.specs.Posted.{was_given}
@@ -76,3 +76,16 @@ rising-push (x ∷ ns) n rising below =
     or-true : (b c : Bool) → c ≡ true → b || c ≡ true
     or-true true c h = refl
     or-true false c h = h
+
+-- where each number is below one that is given, none is above that then
+pub given-within : (ns : List ℕ) (n k : ℕ) → ((j : ℕ) → was_given ns j ≡ true → j < n) → was_given (ns ++ n ∷ []) k ≡ true → k ≤ n
+unfolding was_given
+given-within ns n k below given = by_tests (list_any (nat_eq k) ns) refl (nat_eq k n) refl (sym (list_any-append (nat_eq k) ns (n ∷ [])) ∙ given)
+  where
+    same : nat_eq k n ≡ true → k ≤ n
+    same h = grind (arith, nat_tests)
+
+    by_tests : (b : Bool) → list_any (nat_eq k) ns ≡ b → (c : Bool) → nat_eq k n ≡ c → b || (c || false) ≡ true → k ≤ n
+    by_tests true e c f h = let lt = below k e in omega (arith, lt)
+    by_tests false e true f h = same f
+    by_tests false e false f h = absurd (true≢false (sym h))

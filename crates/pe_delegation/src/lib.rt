@@ -12,3 +12,6 @@ pub use addressed::Addressed;
 pub use delivery::{Delivery, active};
 pub use message::{DeliverFault, Message, PostFault};
 pub use messages::Messages;
+
+#[cfg(test)]
+mod tests;
