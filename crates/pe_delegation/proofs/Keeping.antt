@@ -1,5 +1,5 @@
 -- The messages are kept after each change.
-use Rattle.std.proofs.Common.{◌≡◌, ℕ, ◌+◌, ◌-◌, ◌<◌, ◌≤◌, Bool, true, false, cond, List, [], ◌∷◌, ◌++◌, Some, IsSome, nat_eq, refl, sym, ap, subst, ◌∙◌, inl, inr, true≢false, arith}
+use Rattle.std.proofs.Common.{◌≡◌, ℕ, ◌+◌, ◌-◌, ◌<◌, ◌≤◌, Bool, true, false, cond, List, [], ◌∷◌, ◌++◌, Some, IsSome, nat_eq, refl, sym, ap, subst, ◌∙◌, true≢false, arith, None, ◌||◌}
 use Rattle.std.specs.Prelude.{◌==◌}
 use Rattle.std.specs.Map.{remove_entry}
 use Rattle.std.specs.List.Sorted.{IsStrictlySortedBy}
@@ -9,8 +9,8 @@ use Rattle.pe_delegation.specs.declared.message.Message.{Message}
 use Rattle.pe_delegation.specs.Posted.{message_of, was_given, waiting_count, without, IsInOrder}
 use Rattle.pe_delegation.specs.Kept.{IsRising, IsWaiting, IsKept}
 use Rattle.pe_delegation.proofs.Counting.{count-push, count-removed}
-use Rattle.pe_delegation.proofs.Listed.{found-before, found-push}
-use Rattle.pe_delegation.proofs.Numbers.{given-kept, given-last, rising-push}
+use Rattle.pe_delegation.proofs.Listed.{found-with, found-without}
+use Rattle.pe_delegation.proofs.Numbers.{given-with, rising-push}
 
 -- none stand in order, and none are counted
 none-in-order : IsInOrder []
@@ -94,16 +94,25 @@ none-found k h = true≢false (sym h)
 pub nothing-kept : (es : List (ℕ × Message)) (ns : List ℕ) → es ≡ [] → ns ≡ [] → IsKept es ns
 nothing-kept es ns none empty = subst (λ ks. IsKept es ks) (sym empty) (subst (λ xs. IsKept xs []) (sym none) (record { rising = none-rising; known = λ k h. absurd (none-found k h) }))
 
+-- the numbers of the messages that wait are below one that is above all that were given
+pub waiting-below : (es : List (ℕ × Message)) (ns : List ℕ) (n : ℕ) → IsKept es ns → ((k : ℕ) → was_given ns k ≡ true → k < n) → (k : ℕ) → IsSome (message_of es k) → k < n
+waiting-below es ns n k above j some = above j (k.known j some)
+
 -- a message that is posted has a number that was given
 pub posted-kept : (es xs : List (ℕ × Message)) (ns ks : List ℕ) (n : ℕ) (m : Message) → IsKept es ns → ((k : ℕ) → was_given ns k ≡ true → k < n) → xs ≡ es ++ (n, m) ∷ [] → ks ≡ ns ++ n ∷ [] → IsKept xs ks
 posted-kept es xs ns ks n m k above is given = subst (λ hs. IsKept xs hs) (sym given) (subst (λ ys. IsKept ys (ns ++ n ∷ [])) (sym is) (record {
   rising = rising-push ns n k.rising above;
-  known = λ j some. elim (found-push es n j m some) as (λ _. was_given (ns ++ n ∷ []) j ≡ true) [
-    | inl e ↦ given-kept ns n j (k.known j e)
-    | inr e ↦ given-last ns n j e
-  ];
+  known = λ j some. given-with ns n j ∙ by_test j (nat_eq n j) (subst IsSome (found-with es n j m (waiting-below es ns n k above)) some);
 }))
+  where
+    by_test : (j : ℕ) (b : Bool) → IsSome (cond b (Some m) (message_of es j)) → b || was_given ns j ≡ true
+    by_test j true some = refl
+    by_test j false some = k.known j some
 
 -- a message that is settled keeps its number
 pub settled-kept : (es xs : List (ℕ × Message)) (ns : List ℕ) (n : ℕ) → IsKept es ns → xs ≡ without n es → IsKept xs ns
-settled-kept es xs ns n k is = subst (λ ys. IsKept ys ns) (sym is) (record { rising = k.rising; known = λ j some. k.known j (found-before n j es some) })
+settled-kept es xs ns n k is = subst (λ ys. IsKept ys ns) (sym is) (record { rising = k.rising; known = λ j some. by_test j (nat_eq n j) (subst IsSome (found-without n j es) some) })
+  where
+    by_test : (j : ℕ) (b : Bool) → IsSome (cond b None (message_of es j)) → was_given ns j ≡ true
+    by_test j true some = absurd (true≢false (sym some))
+    by_test j false some = k.known j some

@@ -1,5 +1,5 @@
 -- The waiting messages, with one more and with one less.
-use Rattle.std.proofs.Common.{◌≡◌, ◌⊎◌, ℕ, ◌<◌, Bool, true, false, cond, not, List, [], ◌∷◌, ◌++◌, None, Some, IsSome, nat_eq, refl, sym, ap, subst, ◌∙◌, true≢false, inl, inr, arith}
+use Rattle.std.proofs.Common.{◌≡◌, ℕ, ◌<◌, Bool, true, false, cond, not, List, [], ◌∷◌, ◌++◌, None, Some, IsSome, is_some, nat_eq, refl, sym, ap, subst, ◌∙◌, arith, Option}
 use Rattle.std.specs.BTreeMap.{insert_entry, is_at}
 use Rattle.std.specs.Cmp.{unsigned_tied}
 use Rattle.std.specs.List.{AllByRecursion}
@@ -58,39 +58,55 @@ without-none n (e ∷ es) h = by_test (without-none n es) (nat_eq n e.0) h
     by_test rest true k = absurd cc
     by_test rest false k = ap (λ l. e ∷ l) (rest k)
 
--- what is found without a number was found before
-pub found-before : (n k : ℕ) (es : List (ℕ × Message)) → IsSome (message_of (without n es) k) → IsSome (message_of es k)
+same-number : (a b : ℕ) → a ≡ b → nat_eq a b ≡ true
+same-number a b h = grind (arith, nat_tests)
+
+other-number : (a b c : ℕ) → nat_eq a b ≡ false → nat_eq c b ≡ true → nat_eq a c ≡ false
+other-number a b c x y = grind (arith, nat_tests)
+
+one-number : (a b c : ℕ) → nat_eq a b ≡ true → nat_eq c b ≡ true → nat_eq a c ≡ true
+one-number a b c x y = grind (arith, nat_tests)
+
+-- what is found without a number
+pub found-without : (n k : ℕ) (es : List (ℕ × Message)) → message_of (without n es) k ≡ cond (nat_eq n k) None (message_of es k)
 unfolding without message_of
-found-before n k [] h = h
-found-before n k (e ∷ es) h = by_tests (found-before n k es) (nat_eq n e.0) (nat_eq k e.0) refl h
+found-without n k [] = by_test (nat_eq n k)
   where
-    kept : (c : Bool) → (IsSome (message_of (without n es) k) → IsSome (message_of es k)) → IsSome (cond c (Some e.1) (message_of (without n es) k)) → IsSome (cond c (Some e.1) (message_of es k))
-    kept true rest g = refl
-    kept false rest g = rest g
+    by_test : (b : Bool) → ◌≡◌ {A = Option Message} None (cond b None None)
+    by_test true = refl
+    by_test false = refl
+found-without n k (e ∷ es) = by_tests (nat_eq n e.0) refl (nat_eq k e.0) refl (found-without n k es)
+  where
+    by_tests : (b : Bool) → nat_eq n e.0 ≡ b → (c : Bool) → nat_eq k e.0 ≡ c → message_of (without n es) k ≡ cond (nat_eq n k) None (message_of es k)
+        → message_of (cond (not b) (e ∷ without n es) (without n es)) k ≡ cond (nat_eq n k) None (cond c (Some e.1) (message_of es k))
+    by_tests true f true g rest =
+        rest ∙ ap (λ (d : Bool). cond d None (message_of es k)) (one-number n e.0 k f g) ∙ sym (ap (λ (d : Bool). cond d None (Some e.1)) (one-number n e.0 k f g))
+    by_tests true f false g rest = rest
+    by_tests false f true g rest =
+        ap (λ (d : Bool). cond d (Some e.1) (message_of (without n es) k)) g ∙ sym (ap (λ (d : Bool). cond d None (Some e.1)) (other-number n e.0 k f g))
+    by_tests false f false g rest = ap (λ (d : Bool). cond d (Some e.1) (message_of (without n es) k)) g ∙ rest
 
-    gone : (c : Bool) → IsSome (message_of es k) → IsSome (cond c (Some e.1) (message_of es k))
-    gone true g = refl
-    gone false g = g
-
-    by_tests : (IsSome (message_of (without n es) k) → IsSome (message_of es k)) → (b c : Bool) → nat_eq k e.0 ≡ c
-        → IsSome (message_of (cond (not b) (e ∷ without n es) (without n es)) k) → IsSome (cond c (Some e.1) (message_of es k))
-    by_tests rest true c f g = gone c (rest g)
-    by_tests rest false c f g = kept c rest (subst (λ b. IsSome (cond b (Some e.1) (message_of (without n es) k))) f g)
-
--- what is found among the messages with one more was found before, or is that one
-pub found-push : (es : List (ℕ × Message)) (n k : ℕ) (m : Message) → IsSome (message_of (es ++ (n, m) ∷ []) k) → IsSome (message_of es k) ⊎ (nat_eq k n ≡ true)
+-- what is found with one more, of a number above all others
+pub found-with : (es : List (ℕ × Message)) (n k : ℕ) (m : Message) → ((j : ℕ) → IsSome (message_of es j) → j < n) → message_of (es ++ (n, m) ∷ []) k ≡ cond (nat_eq n k) (Some m) (message_of es k)
 unfolding message_of
-found-push [] n k m h = inr (by_test (nat_eq k n) h)
+found-with [] n k m h = ap (λ (d : Bool). cond d (Some m) None) (turned k n)
   where
-    by_test : (b : Bool) → IsSome (cond b (Some m) None) → b ≡ true
-    by_test true g = refl
-    by_test false g = absurd (true≢false (sym g))
-found-push (e ∷ es) n k m h = by_test (found-push es n k m) (nat_eq k e.0) h
+    turned : (a b : ℕ) → nat_eq a b ≡ nat_eq b a
+    turned a b = grind (arith, nat_tests)
+found-with (e ∷ es) n k m h = by_test (found-with es n k m (λ j s. h j (there j s))) (nat_eq k e.0) refl
   where
-    by_test : (IsSome (message_of (es ++ (n, m) ∷ []) k) → IsSome (message_of es k) ⊎ (nat_eq k n ≡ true)) → (b : Bool)
-        → IsSome (cond b (Some e.1) (message_of (es ++ (n, m) ∷ []) k)) → IsSome (cond b (Some e.1) (message_of es k)) ⊎ (nat_eq k n ≡ true)
-    by_test rest true g = inl refl
-    by_test rest false g = rest g
+    here : IsSome (message_of (e ∷ es) e.0)
+    here = ap (λ (d : Bool). is_some (cond d (Some e.1) (message_of es e.0))) (same-number e.0 e.0 refl)
+
+    there : (j : ℕ) → IsSome (message_of es j) → IsSome (message_of (e ∷ es) j)
+    there j s = elim (nat_eq j e.0) as (λ b. IsSome (cond b (Some e.1) (message_of es j))) [ true ↦ refl | false ↦ s ]
+
+    apart : (a b c : ℕ) → nat_eq b c ≡ true → c < a → nat_eq a b ≡ false
+    apart a b c g lt = grind (arith, nat_tests)
+
+    by_test : message_of (es ++ (n, m) ∷ []) k ≡ cond (nat_eq n k) (Some m) (message_of es k) → (b : Bool) → nat_eq k e.0 ≡ b → cond b (Some e.1) (message_of (es ++ (n, m) ∷ []) k) ≡ cond (nat_eq n k) (Some m) (cond b (Some e.1) (message_of es k))
+    by_test rest true g = sym (ap (λ (d : Bool). cond d (Some m) (Some e.1)) (apart n k e.0 g (h e.0 here)))
+    by_test rest false g = rest
 
 -- the test by which the map finds a number
 pub same_test : (n : ℕ) → is_at (nat_cmp n) ≡ nat_eq n

@@ -1,5 +1,5 @@
 -- The numbers that were given: that they rise, and what a search by halves among them finds.
-use Rattle.std.proofs.Common.{◌≡◌, ℕ, ◌<◌, ◌≤◌, Bool, true, false, ◌||◌, List, [], ◌∷◌, ◌++◌, length, get_or, Result, Ok, Err, nat_eq, refl, sym, ap, ◌∙◌, arith, true≢false, inl, inr}
+use Rattle.std.proofs.Common.{◌≡◌, ℕ, ◌<◌, ◌≤◌, Bool, true, false, ◌||◌, List, [], ◌∷◌, ◌++◌, length, get_or, Result, Ok, Err, nat_eq, refl, sym, ap, ◌∙◌, arith, inl, inr}
 use Rattle.std.specs.Result.{is_ok}
 use Rattle.std.specs.List.{AllByRecursion, list_any}
 use Rattle.std.specs.List.Sorted.{IsStrictlySortedBy, IsBinarySearchResult}
@@ -39,25 +39,19 @@ searched-given ns n (Err i) h rising =
       | inr e ↦ above-other (get_or ns k 0) n (above k e lt)
     ]
 
--- a number that was given stays one
-pub given-kept : (ns : List ℕ) (n k : ℕ) → was_given ns k ≡ true → was_given (ns ++ n ∷ []) k ≡ true
+-- which numbers are given with one more
+pub given-with : (ns : List ℕ) (n k : ℕ) → was_given (ns ++ n ∷ []) k ≡ (nat_eq n k || was_given ns k)
 unfolding was_given
-given-kept [] n k h = absurd (true≢false (sym h))
-given-kept (x ∷ ns) n k h = by_test (given-kept ns n k) (nat_eq k x) h
+given-with ns n k = list_any-append (nat_eq k) ns (n ∷ []) ∙ turned (list_any (nat_eq k) ns) (nat_eq k n) (nat_eq n k) (either k n)
   where
-    by_test : (was_given ns k ≡ true → was_given (ns ++ n ∷ []) k ≡ true) → (b : Bool) → b || was_given ns k ≡ true → b || was_given (ns ++ n ∷ []) k ≡ true
-    by_test rest true e = refl
-    by_test rest false e = rest e
+    either : (a b : ℕ) → nat_eq a b ≡ nat_eq b a
+    either a b = grind (arith, nat_tests)
 
--- the number that is given last is one
-pub given-last : (ns : List ℕ) (n k : ℕ) → nat_eq k n ≡ true → was_given (ns ++ n ∷ []) k ≡ true
-unfolding was_given
-given-last [] n k h = ap (λ (b : Bool). b || false) h
-given-last (x ∷ ns) n k h = by_test (nat_eq k x) (given-last ns n k h)
-  where
-    by_test : (b : Bool) → was_given (ns ++ n ∷ []) k ≡ true → b || was_given (ns ++ n ∷ []) k ≡ true
-    by_test true rest = refl
-    by_test false rest = rest
+    turned : (b c d : Bool) → c ≡ d → (b || (c || false)) ≡ (d || b)
+    turned true true d h = ap (λ (x : Bool). x || true) h
+    turned true false d h = ap (λ (x : Bool). x || true) h
+    turned false true d h = ap (λ (x : Bool). x || false) h
+    turned false false d h = ap (λ (x : Bool). x || false) h
 
 -- the numbers rise with one more that is above each
 pub rising-push : (ns : List ℕ) (n : ℕ) → IsRising ns → ((k : ℕ) → was_given ns k ≡ true → k < n) → IsRising (ns ++ n ∷ [])
@@ -76,16 +70,3 @@ rising-push (x ∷ ns) n rising below =
     or-true : (b c : Bool) → c ≡ true → b || c ≡ true
     or-true true c h = refl
     or-true false c h = h
-
--- where each number is below one that is given, none is above that then
-pub given-within : (ns : List ℕ) (n k : ℕ) → ((j : ℕ) → was_given ns j ≡ true → j < n) → was_given (ns ++ n ∷ []) k ≡ true → k ≤ n
-unfolding was_given
-given-within ns n k below given = by_tests (list_any (nat_eq k) ns) refl (nat_eq k n) refl (sym (list_any-append (nat_eq k) ns (n ∷ [])) ∙ given)
-  where
-    same : nat_eq k n ≡ true → k ≤ n
-    same h = grind (arith, nat_tests)
-
-    by_tests : (b : Bool) → list_any (nat_eq k) ns ≡ b → (c : Bool) → nat_eq k n ≡ c → b || (c || false) ≡ true → k ≤ n
-    by_tests true e c f h = let lt = below k e in omega (arith, lt)
-    by_tests false e true f h = same f
-    by_tests false e false f h = absurd (true≢false (sym h))

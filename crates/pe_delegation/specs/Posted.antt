@@ -5,6 +5,8 @@ use Rattle.std.specs.List.{list_any}
 use Rattle.std.specs.List.Sorted.{IsStrictlySortedBy}
 use Rattle.std.specs.Map.{lookup, keys_of}
 use Rattle.std.specs.Ordering.{nat_cmp}
+use Rattle.pe_arena.specs.declared.handle.DocRef.{DocRef}
+use Rattle.pe_features.specs.declared.capability.Capability.{Capability}
 use Rattle.pe_frames.specs.Forest.{Entry, doc_of}
 use Rattle.pe_origin.specs.Origins.{is_same_origin}
 use Rattle.pe_origin.specs.declared.origin.Origin.{Origin}
@@ -18,6 +20,10 @@ use Rattle.pe_delegation.specs.declared.message.Message.{Message}
 pub record Posted : Type 0 where
   pub waiting : List (ℕ × Message)
   pub given : List ℕ
+
+-- a message, by its parts
+abbrev pub message : ℕ → DocRef → Origin → Capability → Message
+message page target origin capability = record { page = page; target = target; origin = origin; capability = capability }
 
 -- the waiting message of a number
 unfoldable pub message_of : List (ℕ × Message) → ℕ → Option Message

@@ -1,8 +1,8 @@
 //! The messages of all pages.
-ghost use Rattle.std.specs.Prelude.{◌≡◌, ◌↔◌, ◌<◌, ◌≤◌, ◌+◌, ◌++◌, ℕ, true, [], ◌∷◌, IfOk, OnOk, OnErr, Some, Err, option_map};
+ghost use Rattle.std.specs.Prelude.{◌≡◌, ◌↔◌, ◌<◌, ◌≤◌, ◌+◌, ◌++◌, ◌||◌, ℕ, nat_eq, true, [], ◌∷◌, IfOk, OnOk, OnErr, None, Some, Err, option_map, if◌then◌else◌};
 ghost use Rattle.std.specs.Result.{result_err};
 ghost use Rattle.pe_base.specs.declared.limits.TheConstants.{MESSAGE_LIMIT};
-ghost use Rattle.pe_delegation.specs.Posted.{message_of, was_given, deliver_fault, waiting_count, without, delivery_of, IsInOrder};
+ghost use Rattle.pe_delegation.specs.Posted.{message, message_of, was_given, deliver_fault, waiting_count, without, delivery_of, IsInOrder};
 
 use crate::addressed::Addressed;
 use crate::delivery::{Delivery, delivery_of};
@@ -83,8 +83,10 @@ impl Messages {
         capability: Capability,
     ) -> Result<(), PostFault>
         requires { (k : ℕ) → was_given self.old.given k ≡ true → k < no }
-        ensures waiting { OnOk result (self.new.waiting ≡ self.old.waiting ++ (no, record { page = page; target = target; origin = origin; capability = capability }) ∷ []) }
+        ensures waiting { OnOk result (self.new.waiting ≡ self.old.waiting ++ (no, message page target origin capability) ∷ []) }
         ensures given { OnOk result (self.new.given ≡ self.old.given ++ no ∷ []) }
+        ensures found { OnOk result ((k : ℕ) → message_of self.new.waiting k ≡ if nat_eq no k then Some (message page target origin capability) else message_of self.old.waiting k) }
+        ensures known { OnOk result ((k : ℕ) → was_given self.new.given k ≡ (nat_eq no k || was_given self.old.given k)) }
         ensures too_many { (result ≡ Err PostFault.TooMany) ↔ (waiting_count page self.old.waiting ≡ MESSAGE_LIMIT) }
         ensures err { OnErr result (self.new ≡ self.old) }
     {
@@ -122,6 +124,7 @@ impl Messages {
         ensures delivery { IfOk result (λ d. Some d ≡ option_map (delivery_of D.doc_no D.origin_of frames.now.entries) (message_of self.old.waiting message)) }
         ensures waiting { OnOk result (self.new.waiting ≡ without message self.old.waiting) }
         ensures given { OnOk result (self.new.given ≡ self.old.given) }
+        ensures found { OnOk result ((k : ℕ) → message_of self.new.waiting k ≡ if nat_eq message k then None else message_of self.old.waiting k) }
         ensures cost { OnOk result (steps.new ≡ steps.old + 1) }
         ensures fault { result_err result ≡ deliver_fault self.old message }
         ensures err { OnErr result ((self.new ≡ self.old) × (steps.new ≡ steps.old)) }

@@ -1,4 +1,4 @@
-use Rattle.std.proofs.Common.{◌≡◌, ap, sym, true, false, ◌∙◌, true≢false}
+use Rattle.std.proofs.Common.{ap, sym, ◌∙◌, true≢false}
 use Rattle.pe_delegation.specs.Posted.{was_given}
 use Rattle.pe_delegation.proofs.tests.Session.new.Goals as goal
 
