@@ -135,6 +135,7 @@ struct Session {
 }
 
 impl Session {
+    #[tactic(auto, unfolding(crate::specs::Posted::was_given))]
     fn new(alloc: Global) -> Session {
         Session {
             alloc,
