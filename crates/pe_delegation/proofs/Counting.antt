@@ -1,9 +1,10 @@
 -- How many messages of a page wait, with one more and with one less.
-use Rattle.std.proofs.Common.{◌≡◌, ℕ, ◌+◌, Bool, true, false, cond, List, [], ◌∷◌, ◌++◌, length, filter, Some, nat_eq, refl, subst, arith}
+use Rattle.std.proofs.Common.{◌≡◌, ℕ, ◌+◌, Bool, true, false, cond, not, List, [], ◌∷◌, ◌++◌, length, filter, Some, nat_eq, refl, sym, ap, ◌∙◌, subst, arith}
 use Rattle.std.specs.Prelude.{◌==◌}
-use Rattle.std.specs.Map.{remove_entry}
+use Rattle.std.specs.List.Sorted.{IsStrictlySortedBy}
 use Rattle.pe_delegation.specs.declared.message.Message.{Message}
-use Rattle.pe_delegation.specs.Posted.{message_of, waiting_count}
+use Rattle.pe_delegation.specs.Posted.{message_of, waiting_count, without, IsInOrder}
+use Rattle.pe_delegation.proofs.Listed.{without-later}
 
 -- a page has one more with one of its own
 pub count-push : (page n : ℕ) (m : Message) (es : List (ℕ × Message)) → waiting_count page (es ++ (n, m) ∷ []) ≡ waiting_count page es + cond (m.page == page) 1 0
@@ -22,23 +23,26 @@ count-push page n m (e ∷ es) = by_test (e.1.page == page) (cond (m.page == pag
     by_test false k h = h
 
 -- a page has one less without one of its own
-pub count-removed : (page n : ℕ) (m : Message) (es : List (ℕ × Message)) → message_of es n ≡ Some m → waiting_count page es ≡ waiting_count page (remove_entry (nat_eq n) es) + cond (m.page == page) 1 0
-unfolding waiting_count message_of
-count-removed page n m [] h = absurd cc
-count-removed page n m (e ∷ es) h = by_test (count-removed page n m es) (nat_eq n e.0) h
+pub count-without : (page n : ℕ) (m : Message) (es : List (ℕ × Message)) → IsInOrder es → message_of es n ≡ Some m → waiting_count page es ≡ waiting_count page (without n es) + cond (m.page == page) 1 0
+unfolding waiting_count message_of without IsInOrder IsStrictlySortedBy
+count-without page n m [] order h = absurd cc
+count-without page n m (e ∷ es) order h = by_test (count-without page n m es order.1) (nat_eq n e.0) refl h
   where
     one : (b : Bool) → length (cond b (e ∷ filter (λ x. x.1.page == page) es) (filter (λ x. x.1.page == page) es)) ≡ waiting_count page es + cond b 1 0
     one true = omega arith
     one false = omega arith
 
-    more : (b : Bool) (k : ℕ) → waiting_count page es ≡ waiting_count page (remove_entry (nat_eq n) es) + k
+    more : (b : Bool) (k : ℕ) → waiting_count page es ≡ waiting_count page (without n es) + k
         → length (cond b (e ∷ filter (λ x. x.1.page == page) es) (filter (λ x. x.1.page == page) es))
-        ≡ length (cond b (e ∷ filter (λ x. x.1.page == page) (remove_entry (nat_eq n) es)) (filter (λ x. x.1.page == page) (remove_entry (nat_eq n) es))) + k
+        ≡ length (cond b (e ∷ filter (λ x. x.1.page == page) (without n es)) (filter (λ x. x.1.page == page) (without n es))) + k
     more true k g = omega (arith, g)
     more false k g = g
 
-    by_test : (message_of es n ≡ Some m → waiting_count page es ≡ waiting_count page (remove_entry (nat_eq n) es) + cond (m.page == page) 1 0)
-        → (b : Bool) → cond b (Some e.1) (message_of es n) ≡ Some m
-        → waiting_count page (e ∷ es) ≡ waiting_count page (cond b es (e ∷ remove_entry (nat_eq n) es)) + cond (m.page == page) 1 0
-    by_test rest true k = let is : e.1 ≡ m = cc in subst (λ (x : Message). waiting_count page (e ∷ es) ≡ waiting_count page es + cond (x.page == page) 1 0) is (one (e.1.page == page))
-    by_test rest false k = more (e.1.page == page) (cond (m.page == page) 1 0) (rest k)
+    by_test : (message_of es n ≡ Some m → waiting_count page es ≡ waiting_count page (without n es) + cond (m.page == page) 1 0)
+        → (b : Bool) → nat_eq n e.0 ≡ b → cond b (Some e.1) (message_of es n) ≡ Some m
+        → waiting_count page (e ∷ es) ≡ waiting_count page (cond (not b) (e ∷ without n es) (without n es)) + cond (m.page == page) 1 0
+    by_test rest true f k =
+        let is : e.1 ≡ m = cc in
+        subst (λ (x : Message). waiting_count page (e ∷ es) ≡ waiting_count page es + cond (x.page == page) 1 0) is (one (e.1.page == page))
+        ∙ ap (λ (xs : List (ℕ × Message)). waiting_count page xs + cond (m.page == page) 1 0) (sym (without-later n e.0 es f order.0))
+    by_test rest false f k = more (e.1.page == page) (cond (m.page == page) 1 0) (rest k)

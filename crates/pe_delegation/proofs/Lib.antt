@@ -2,3 +2,4 @@ pub mod Counting
 pub mod Keeping
 pub mod Listed
 pub mod Numbers
+pub mod Slots

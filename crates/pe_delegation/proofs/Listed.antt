@@ -1,62 +1,30 @@
 -- The waiting messages, with one more and with one less.
-use Rattle.std.proofs.Common.{◌≡◌, ℕ, ◌<◌, Bool, true, false, cond, not, List, [], ◌∷◌, ◌++◌, None, Some, IsSome, is_some, nat_eq, refl, sym, ap, subst, ◌∙◌, arith, Option}
-use Rattle.std.specs.BTreeMap.{insert_entry, is_at}
-use Rattle.std.specs.Cmp.{unsigned_tied}
+use Rattle.std.proofs.Common.{◌≡◌, ℕ, ◌<◌, Bool, true, false, cond, not, List, [], ◌∷◌, ◌++◌, None, Some, IsSome, is_some, nat_eq, refl, sym, ap, ◌∙◌, arith, Option}
 use Rattle.std.specs.List.{AllByRecursion}
-use Rattle.std.specs.List.Sorted.{IsStrictlySortedBy}
-use Rattle.std.specs.Map.{remove_entry, keys_of}
-use Rattle.std.specs.Ordering.{nat_cmp, match_ordering}
-use Rattle.std.specs.declared.cmp.Ordering.TheVariants.{Less, Greater}
+use Rattle.std.specs.Map.{keys_of}
+use Rattle.std.specs.Ordering.{nat_cmp}
+use Rattle.std.specs.declared.cmp.Ordering.TheVariants.{Less}
 use Rattle.std.proofs.lemmas.Bool.Decides.{nat_tests}
 use Rattle.pe_delegation.specs.declared.message.Message.{Message}
-use Rattle.pe_delegation.specs.Posted.{message_of, without, IsInOrder}
-
--- a message of a number above all others is put behind them
-pub insert-last : (es : List (ℕ × Message)) (n : ℕ) (m : Message) → ((k : ℕ) → IsSome (message_of es k) → k < n) → insert_entry nat_cmp es n m ≡ es ++ (n, m) ∷ []
-unfolding message_of
-insert-last [] n m h = refl
-insert-last (e ∷ es) n m h =
-    let first : e.0 < n = h e.0 (subst IsSome (sym found_first) refl) in
-    let rest = insert-last es n m (λ k some. h k (found_later k some)) in
-    ap (λ o. match_ordering o ((n, m) ∷ e ∷ es) ((e.0, m) ∷ es) (e ∷ insert_entry nat_cmp es n m)) (greater n e.0 first) ∙ ap (λ l. e ∷ l) rest
-  where
-    found_first : message_of (e ∷ es) e.0 ≡ Some e.1
-    found_first = let yes : nat_eq e.0 e.0 ≡ true = grind (arith, nat_tests) in ap (λ b. cond b (Some e.1) (message_of es e.0)) yes
-
-    found_later : (k : ℕ) → IsSome (message_of es k) → IsSome (message_of (e ∷ es) k)
-    found_later k s = elim (nat_eq k e.0) as (λ b. IsSome (cond b (Some e.1) (message_of es k))) [ true ↦ refl | false ↦ s ]
-
-    greater : (a b : ℕ) → b < a → nat_cmp a b ≡ Greater
-    greater a b lt = grind (arith, nat_tests)
+use Rattle.pe_delegation.specs.Posted.{message_of, without}
 
 -- none of the messages behind one has its number
-later : (n k : ℕ) (es : List (ℕ × Message)) → nat_eq n k ≡ true → AllByRecursion (λ q. nat_cmp k q ≡ Less) (keys_of es) → without n es ≡ es
+pub without-later : (n k : ℕ) (es : List (ℕ × Message)) → nat_eq n k ≡ true → AllByRecursion (λ q. nat_cmp k q ≡ Less) (keys_of es) → without n es ≡ es
 unfolding without
-later n k [] is h = refl
-later n k (e ∷ es) is h = ap (λ b. cond (not b) (e ∷ without n es) (without n es)) (other n k e.0 is h.0) ∙ ap (λ l. e ∷ l) (later n k es is h.1)
+without-later n k [] is h = refl
+without-later n k (e ∷ es) is h = ap (λ b. cond (not b) (e ∷ without n es) (without n es)) (other n k e.0 is h.0) ∙ ap (λ l. e ∷ l) (without-later n k es is h.1)
   where
     other : (a b c : ℕ) → nat_eq a b ≡ true → nat_cmp b c ≡ Less → nat_eq a c ≡ false
     other a b c x y = grind (arith, nat_tests)
 
--- taking the message of a number out of those in order leaves the others
-pub removed-is : (n : ℕ) (es : List (ℕ × Message)) → IsInOrder es → remove_entry (nat_eq n) es ≡ without n es
-unfolding without IsInOrder IsStrictlySortedBy
-removed-is n [] order = refl
-removed-is n (e ∷ es) order = by_test (removed-is n es order.1) (nat_eq n e.0) refl
+-- nor is one found there
+pub none-later : (n k : ℕ) (es : List (ℕ × Message)) → nat_eq n k ≡ true → AllByRecursion (λ q. nat_cmp k q ≡ Less) (keys_of es) → message_of es n ≡ None
+unfolding message_of
+none-later n k [] is h = refl
+none-later n k (e ∷ es) is h = ap (λ b. cond b (Some e.1) (message_of es n)) (other n k e.0 is h.0) ∙ none-later n k es is h.1
   where
-    by_test : remove_entry (nat_eq n) es ≡ without n es → (b : Bool) → nat_eq n e.0 ≡ b → cond b es (e ∷ remove_entry (nat_eq n) es) ≡ cond (not b) (e ∷ without n es) (without n es)
-    by_test rest true is = sym (later n e.0 es is order.0)
-    by_test rest false is = ap (λ l. e ∷ l) rest
-
--- where no message has the number, all stay
-pub without-none : (n : ℕ) (es : List (ℕ × Message)) → message_of es n ≡ None → es ≡ without n es
-unfolding without message_of
-without-none n [] h = refl
-without-none n (e ∷ es) h = by_test (without-none n es) (nat_eq n e.0) h
-  where
-    by_test : (message_of es n ≡ None → es ≡ without n es) → (b : Bool) → cond b (Some e.1) (message_of es n) ≡ None → e ∷ es ≡ cond (not b) (e ∷ without n es) (without n es)
-    by_test rest true k = absurd cc
-    by_test rest false k = ap (λ l. e ∷ l) (rest k)
+    other : (a b c : ℕ) → nat_eq a b ≡ true → nat_cmp b c ≡ Less → nat_eq a c ≡ false
+    other a b c x y = grind (arith, nat_tests)
 
 same-number : (a b : ℕ) → a ≡ b → nat_eq a b ≡ true
 same-number a b h = grind (arith, nat_tests)
@@ -107,7 +75,3 @@ found-with (e ∷ es) n k m h = by_test (found-with es n k m (λ j s. h j (there
     by_test : message_of (es ++ (n, m) ∷ []) k ≡ cond (nat_eq n k) (Some m) (message_of es k) → (b : Bool) → nat_eq k e.0 ≡ b → cond b (Some e.1) (message_of (es ++ (n, m) ∷ []) k) ≡ cond (nat_eq n k) (Some m) (cond b (Some e.1) (message_of es k))
     by_test rest true g = sym (ap (λ (d : Bool). cond d (Some m) (Some e.1)) (apart n k e.0 g (h e.0 here)))
     by_test rest false g = rest
-
--- the test by which the map finds a number
-pub same_test : (n : ℕ) → is_at (nat_cmp n) ≡ nat_eq n
-same_test n = λ j y. unsigned_tied n y j

@@ -1,5 +1,5 @@
 -- The numbers that were given: that they rise, and what a search by halves among them finds.
-use Rattle.std.proofs.Common.{◌≡◌, ℕ, ◌<◌, ◌≤◌, Bool, true, false, ◌||◌, List, [], ◌∷◌, ◌++◌, length, get_or, Result, Ok, Err, nat_eq, refl, sym, ap, ◌∙◌, arith, inl, inr}
+use Rattle.std.proofs.Common.{◌≡◌, ℕ, ◌<◌, ◌≤◌, Bool, true, false, ◌||◌, List, [], ◌∷◌, ◌++◌, length, get_or, Result, Ok, Err, Some, nat_eq, refl, sym, ap, ◌∙◌, arith, inl, inr}
 use Rattle.std.specs.Result.{is_ok}
 use Rattle.std.specs.List.{AllByRecursion, list_any}
 use Rattle.std.specs.List.Sorted.{IsStrictlySortedBy, IsBinarySearchResult}
@@ -12,7 +12,7 @@ use Rattle.std.proofs.lemmas.List.Folds.{list_any_at, list_any_none, list_any-ap
 use Rattle.std.proofs.lemmas.List.Sorted.{searched}
 use Rattle.std.proofs.lemmas.Map.Keys.{non_decreasing_from_sorted}
 use Rattle.pe_delegation.specs.Posted.{was_given}
-use Rattle.pe_delegation.specs.Kept.{IsRising}
+use Rattle.pe_delegation.specs.Kept.{IsRising, IsPlaceOf}
 
 same-number : (a b : ℕ) → a ≡ b → nat_eq b a ≡ true
 same-number a b h = grind (arith, nat_tests)
@@ -38,6 +38,11 @@ searched-given ns n (Err i) h rising =
       | inl e ↦ below-other (get_or ns k 0) n (below k e)
       | inr e ↦ above-other (get_or ns k 0) n (above k e lt)
     ]
+
+-- the number at a place was given
+pub given-at : (ns : List ℕ) (n place : ℕ) → IsPlaceOf ns n (Some place) → was_given ns n ≡ true
+unfolding was_given
+given-at ns n place at = list_any_at (nat_eq n) ns place 0 at.0 (same-number (get_or ns place 0) n at.1)
 
 -- which numbers are given with one more
 pub given-with : (ns : List ℕ) (n k : ℕ) → was_given (ns ++ n ∷ []) k ≡ (nat_eq n k || was_given ns k)

@@ -1,14 +1,15 @@
 //! The numbers of the messages that were ever posted.
-ghost use Rattle.std.specs.Prelude.{◌≡◌};
-ghost use Rattle.pe_delegation.specs.Posted.{was_given};
-ghost use Rattle.pe_delegation.specs.Kept.{IsRising};
+ghost use Rattle.pe_delegation.specs.Kept.{IsRising, IsPlaceOf};
 
 use pe_base::MessageNo;
 
-// Whether a message of this number was posted.
-pub(crate) fn was_given(given: &[MessageNo], no: MessageNo) -> bool
+// The place of the number among those that were given, if it is one.
+pub(crate) fn place_of(given: &[MessageNo], no: MessageNo) -> Option<usize>
     requires { IsRising given.now }
-    ensures { result ≡ was_given given.now no }
+    ensures { IsPlaceOf given.now no result }
 {
-    given.binary_search(&no).is_ok()
+    match given.binary_search(&no) {
+        Ok(place) => Some(place),
+        Err(_) => None,
+    }
 }

@@ -6,7 +6,7 @@ mod delivery;
 mod given;
 mod message;
 mod messages;
-mod waiting;
+mod slot;
 
 pub use addressed::Addressed;
 pub use delivery::{Delivery, active};

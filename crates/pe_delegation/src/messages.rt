@@ -1,16 +1,17 @@
 //! The messages of all pages.
-ghost use Rattle.std.specs.Prelude.{◌≡◌, ◌↔◌, ◌<◌, ◌≤◌, ◌+◌, ◌++◌, ◌||◌, ℕ, nat_eq, true, [], ◌∷◌, IfOk, OnOk, OnErr, None, Some, Err, option_map, if◌then◌else◌};
+ghost use Rattle.std.specs.Prelude.{◌≡◌, ◌↔◌, ◌<◌, ◌≤◌, ◌+◌, ◌++◌, ◌||◌, ℕ, nat_eq, true, [], ◌∷◌, IfOk, OnOk, OnErr, None, Some, Err, option_map, if◌then◌else◌, vec_len, slice_set};
 ghost use Rattle.std.specs.Result.{result_err};
 ghost use Rattle.pe_base.specs.declared.limits.TheConstants.{MESSAGE_LIMIT};
 ghost use Rattle.pe_delegation.specs.Posted.{message, message_of, was_given, deliver_fault, waiting_count, without, delivery_of, IsInOrder};
 
 use crate::addressed::Addressed;
 use crate::delivery::{Delivery, delivery_of};
-use crate::given::was_given;
+use crate::given::place_of;
 use crate::message::{DeliverFault, Message, PostFault};
-use crate::waiting::Waiting;
+use crate::slot::Slot;
 use pe_arena::DocRef;
 use pe_base::{FrameNo, MESSAGE_LIMIT, MessageNo, Steps};
+use pe_counts::PageCounts;
 use pe_features::Capability;
 use pe_frames::Frames;
 use pe_origin::Origin;
@@ -20,11 +21,14 @@ use std::sync::ledger::Ledger;
 
 /// The delegating messages of a session. A message waits until a delivery names it, whatever comes of
 /// that, and also where its page is closed. A message is found by its number, at the cost of a logarithm
-/// of how many wait, or were ever posted.
+/// of how many were ever posted; one that is settled takes no more than its number and a pointer.
 #[derive(Drop)]
 pub struct Messages {
+    // The numbers that were given, rising, and what is kept of the message of each.
     given: Vec<MessageNo>,
-    waiting: Waiting,
+    slots: Vec<Slot>,
+    // How many messages of each page wait.
+    pages: PageCounts,
 }
 
 impl Model for Messages {
@@ -32,12 +36,24 @@ impl Model for Messages {
 
     ghost Value = { Posted };
 
-    ghost use Rattle.pe_delegation.specs.Kept.{IsKept};
+    ghost use Rattle.pe_counts.specs.Counts.{count_of};
+    ghost use Rattle.pe_delegation.specs.Kept.{waiting_in, IsKept};
 
-    ghost view = { λ m. record { waiting = m.waiting; given = m.given.items } };
+    ghost view = { λ m. record { waiting = waiting_in m.given.items m.slots.items; given = m.given.items } };
 
-    ghost invariant = { λ m. IsKept m.waiting m.given.items };
+    ghost invariant = { λ m. IsKept m.given.items m.slots.items (count_of m.pages) };
 }
+
+// Settles the message at the place.
+fn settle_at(slots: &mut Vec<Slot>, place: usize)
+    requires { place < vec_len slots.old }
+    ensures { slots.new.items ≡ slice_set slots.old.items place None }
+{
+    slots[place].settle();
+}
+
+// Lets go of a message that was not posted.
+fn let_go(_slot: Slot) {}
 
 impl Messages {
     /// No message.
@@ -46,7 +62,8 @@ impl Messages {
     {
         Messages {
             given: Vec::new(alloc),
-            waiting: Waiting::new(alloc),
+            slots: Vec::new(alloc),
+            pages: PageCounts::new(alloc),
         }
     }
 
@@ -55,7 +72,7 @@ impl Messages {
         ensures value { result ≡ waiting_count page self.now.waiting }
         ensures bound { result ≤ MESSAGE_LIMIT }
     {
-        self.waiting.count(page)
+        self.pages.get(page)
     }
 
     /// The waiting message of this number. The refusals are those of `deliver`.
@@ -64,10 +81,12 @@ impl Messages {
         ensures fault { result_err result ≡ deliver_fault self.now message }
         ensures order { IsInOrder self.now.waiting }
     {
-        match self.waiting.get(message) {
+        let Some(place) = place_of(&self.given, message) else {
+            return Err(DeliverFault::Unknown);
+        };
+        match self.slots[place].get() {
             Some(found) => Ok(found),
-            None if was_given(&self.given, message) => Err(DeliverFault::Settled),
-            None => Err(DeliverFault::Unknown),
+            None => Err(DeliverFault::Settled),
         }
     }
 
@@ -90,10 +109,10 @@ impl Messages {
         ensures too_many { (result ≡ Err PostFault.TooMany) ↔ (waiting_count page self.old.waiting ≡ MESSAGE_LIMIT) }
         ensures err { OnErr result (self.new ≡ self.old) }
     {
-        if self.waiting.count(page) == MESSAGE_LIMIT {
+        if self.pages.get(page) == MESSAGE_LIMIT {
             return Err(PostFault::TooMany);
         }
-        if self.given.reserve(1).is_err() {
+        if self.given.reserve(1).is_err() || self.slots.reserve(1).is_err() {
             return Err(PostFault::Memory);
         }
         let message = Message {
@@ -102,10 +121,15 @@ impl Messages {
             origin,
             capability,
         };
-        let Ok(()) = self.waiting.put(no, message) else {
+        let Ok(slot) = Slot::of(*self.slots.allocator(), message) else {
+            return Err(PostFault::Memory);
+        };
+        let Ok(()) = self.pages.add(page) else {
+            let_go(slot);
             return Err(PostFault::Memory);
         };
         self.given.push_reserved(no);
+        self.slots.push_reserved(slot);
         Ok(())
     }
 
@@ -129,9 +153,16 @@ impl Messages {
         ensures fault { result_err result ≡ deliver_fault self.old message }
         ensures err { OnErr result ((self.new ≡ self.old) × (steps.new ≡ steps.old)) }
     {
-        let found = self.find(message)?;
+        let Some(place) = place_of(&self.given, message) else {
+            return Err(DeliverFault::Unknown);
+        };
+        let Some(found) = self.slots[place].get() else {
+            return Err(DeliverFault::Settled);
+        };
+        let page = found.page;
         let delivery = delivery_of(found, frames, steps);
-        self.waiting.take(message);
+        settle_at(&mut self.slots, place);
+        self.pages.take(page);
         Ok(delivery)
     }
 }
