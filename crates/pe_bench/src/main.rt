@@ -10,6 +10,8 @@
 //! - `input SHAPE SIZE COUNT`: gives the top frame of a page of so many frames so many inputs. `flat`, all stand
 //!   below the top frame; `deep`, in chains of the greatest depth.
 //! - `consume SHAPE SIZE COUNT`: consumes the activation of such a page so many times.
+//! - `post PAGES WAITING COUNT`: posts so many messages in so many pages and delivers each, once so many of its page
+//!   wait.
 //! - `read LINE COUNT`: reads the line of this name so many times, as the name of a verb (`reading`).
 //! - `write ANSWER COUNT`: writes the line of the answer of this name, or of a `change`, so many times (`writing`).
 #![tactic(auto)]
@@ -19,6 +21,7 @@ mod arena;
 mod cutter;
 mod fields;
 mod frames;
+mod messages;
 mod reading;
 mod writing;
 
@@ -32,7 +35,7 @@ use writing::{Output, output_named};
 /// What is written where the arguments are of no form.
 const USAGE: &str = "usage: pe_bench fields COUNT | cutter BYTES LENGTH PIECE | change COUNT \
 | find COUNT | close PAGES SIZE | leaf LIVE COUNT | input SHAPE SIZE COUNT \
-| consume SHAPE SIZE COUNT | read LINE COUNT | write ANSWER COUNT";
+| consume SHAPE SIZE COUNT | post PAGES WAITING COUNT | read LINE COUNT | write ANSWER COUNT";
 
 /// What is to be measured.
 #[derive(Drop)]
@@ -63,6 +66,11 @@ enum Work {
         call: Call,
         flat: bool,
         size: u32,
+        count: u32,
+    },
+    Post {
+        pages: u32,
+        waiting: u32,
         count: u32,
     },
     Read {
@@ -125,6 +133,15 @@ fn activation_work(call: &str, shape: &str, size: &str, count: &str) -> Option<W
     })
 }
 
+/// The work of posting and delivering messages.
+fn post_work(pages: &str, waiting: &str, count: &str) -> Option<Work> {
+    Some(Work::Post {
+        pages: pages.parse().ok()?,
+        waiting: waiting.parse().ok()?,
+        count: count.parse().ok()?,
+    })
+}
+
 /// The work of reading a line of this name so many times.
 fn read_work(line: &str, count: &str) -> Option<Work> {
     Some(Work::Read {
@@ -167,6 +184,11 @@ fn work_of(alloc: Global, words: &[String]) -> Result<Option<Work>, AllocError> 
         [name, bytes, length, piece] if name.as_str() == "cutter" => {
             Ok(cutter_work(bytes.as_str(), length.as_str(), piece.as_str()))
         }
+        [name, pages, waiting, count] if name.as_str() == "post" => Ok(post_work(
+            pages.as_str(),
+            waiting.as_str(),
+            count.as_str(),
+        )),
         [name, shape, size, count] => Ok(activation_work(
             name.as_str(),
             shape.as_str(),
@@ -225,6 +247,14 @@ fn done(alloc: Global, work: Work) -> Result<String, AllocError> {
         } => {
             let changed = activation::page_activated(alloc, call, flat, size, count);
             format!(in alloc; "{size} frames, {count} calls, {changed} changed")
+        }
+        Work::Post {
+            pages,
+            waiting,
+            count,
+        } => {
+            let put = messages::capabilities_put(alloc, pages, waiting, count)?;
+            format!(in alloc; "{count} messages, {put} capabilities put")
         }
         Work::Read { line, count } => {
             let reading = reading::lines_read(alloc, line, count)?;

@@ -1,0 +1,5 @@
+pub mod Counting
+pub mod Keeping
+pub mod Listed
+pub mod Numbers
+pub mod Slots
