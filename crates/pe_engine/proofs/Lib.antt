@@ -16,3 +16,4 @@ pub mod Opened
 pub mod NoChanges
 pub mod Embedded
 pub mod Navigated
+pub mod Promised

@@ -10,3 +10,4 @@ pub mod Giving
 pub mod Changing
 pub mod Stepping
 pub mod Embedding
+pub mod Promises

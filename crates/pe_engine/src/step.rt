@@ -1,7 +1,12 @@
 //! One event after another.
-ghost use Rattle.std.specs.Prelude.{◌≡◌, true, false, IfOk, IsOkAnd, Err, OnOk, OnErr, []};
+ghost use Rattle.std.specs.Prelude.{◌≡◌, ℕ, List, true, false, IfOk, IsOkAnd, Err, OnOk, OnErr, []};
+ghost use Rattle.pe_base.specs.declared.denial.Denial.{Denial};
+ghost use Rattle.pe_events.specs.declared.answer.Answer.TheVariants as answer;
 ghost use Rattle.pe_events.specs.declared.cause.Cause.TheVariants as cause;
-ghost use Rattle.pe_engine.specs.Replying.{timed, IsAnswer};
+ghost use Rattle.pe_events.specs.declared.event.Event.TheVariants as event;
+ghost use Rattle.pe_events.specs.declared.reason.Reason.TheVariants as reason;
+ghost use Rattle.pe_engine.specs.Promises.{IsAllowedIn, IsDeniedIn};
+ghost use Rattle.pe_engine.specs.Replying.{timed, steps_of, IsAnswer};
 ghost use Rattle.pe_engine.specs.Stepping.{is_answered, IsReply, IsSyntaxRefusal};
 ghost use Rattle.pe_engine.specs.declared.refusal.Refusal.TheVariants as refusal;
 
@@ -91,10 +96,8 @@ impl Engine {
         }
     }
 
-    /// Takes an event. It is accepted, and answered after those before it, or refused for the first
-    /// cause that applies, which changes nothing. An event of a verb that is not built is refused as no
-    /// line of the grammar. `AllocError` where memory wants, now or in an earlier call.
-    pub fn step<L: Ledger>(
+    /// The reply to an event.
+    fn reply<L: Ledger>(
         &mut self,
         stamped: &Stamped<'_>,
         steps: &mut Steps<L>,
@@ -116,5 +119,28 @@ impl Engine {
                 Err(AllocError)
             }
         }
+    }
+
+    /// Takes an event. It is accepted, and answered after those before it, or refused for the first
+    /// cause that applies, which changes nothing. An event of a verb that is not built is refused as no
+    /// line of the grammar. `AllocError` where memory wants, now or in an earlier call.
+    pub fn step<L: Ledger>(
+        &mut self,
+        stamped: &Stamped<'_>,
+        steps: &mut Steps<L>,
+    ) -> Result<Replies, AllocError>
+        ensures replied { (H : History) → StandsFor self.old H → is_answered stamped.now.event ≡ true → IfOk result (IsReply self.old self.new H (timed stamped.now.time stamped.now.event)) }
+        ensures other { self.old.failed ≡ false → is_answered stamped.now.event ≡ false → IsOkAnd result (λ r. IsSyntaxRefusal r × (self.new ≡ self.old)) }
+        ensures once_failed { self.old.failed ≡ true → OnOk result ⊥ × (self.new ≡ self.old) }
+        ensures fails { OnErr result (self.new.failed ≡ true) }
+
+        // What the policy's answers say of each document from the page's top one down.
+        ensures allowed { (H : History) (frame : ℕ) (name : List ℕ) → StandsFor self.old H → stamped.now.event ≡ event.PolicyOf frame name
+            → IfOk result (λ r. r.answer ≡ answer.Allowed → IsAllowedIn (steps_of self.old H) frame name) }
+        ensures denied { (H : History) (frame : ℕ) (name : List ℕ) (why : Denial) → StandsFor self.old H → stamped.now.event ≡ event.PolicyOf frame name
+            → IfOk result (λ r. r.answer ≡ answer.Denied (reason.Policy why) → IsDeniedIn (steps_of self.old H) frame name why) }
+    {
+        history_laws();
+        self.reply(stamped, steps)
     }
 }

@@ -1,8 +1,10 @@
-use Rattle.pe_engine.specs.Replying.{timed}
-use Rattle.pe_engine.proofs.NoChanges.{reply-accepted}
+use Rattle.pe_engine.proofs.Promised.{clause-allowed, clause-denied}
 use Rattle.pe_engine.proofs.engine.Engine.step.Goals as goal
 
-pub returns-in-Ok-clause-replied : goal.returns-in-Ok-clause-replied
-returns-in-Ok-clause-replied g c = λ H s built.
-    reply-accepted c.args.self.now c.answer.new.self H (timed c.args.stamped.now.time c.args.stamped.now.event) c.in-Ok.answer c.without_changes.result (c.in-Ok.ensures.built H s built)
-    c.without_changes.ensures.answer c.without_changes.ensures.before c.without_changes.ensures.after
+pub returns-clause-allowed : goal.returns-clause-allowed
+returns-clause-allowed g c = λ H frame name s is.
+    clause-allowed c.history_laws.ensures c.reply.result c.args.self.now c.reply.new.self H c.args.stamped.now.time c.args.stamped.now.event frame name is (c.reply.ensures.replied H s)
+
+pub returns-clause-denied : goal.returns-clause-denied
+returns-clause-denied g c = λ H frame name why s is.
+    clause-denied c.history_laws.ensures c.reply.result c.args.self.now c.reply.new.self H c.args.stamped.now.time c.args.stamped.now.event frame name why is (c.reply.ensures.replied H s)
