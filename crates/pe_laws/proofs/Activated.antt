@@ -1,4 +1,4 @@
--- In a regular history an event activates as many documents as live frames show that it activates.
+-- In a regular history an event activates as many documents as there are live frames that show one that it activates.
 use Rattle.std.proofs.Common.{◌≡◌, ◌≢◌, ℕ, suc, ◌≤◌, Bool, true, false, not, ◌&&◌, ◌||◌, ◌==◌, List, [], ◌∷◌, ◌++◌, length, filter, Option, Some, None, is_some, unwrap_or, option_map, option_to_list, refl, sym, ◌∙◌, ap, arith, cond, true≢false}
 use Rattle.pe_events.specs.declared.event.Event.{Event}
 use Rattle.pe_rules.specs.History.{RepliedHistory, History, some_if, answers_newest_first}

@@ -1,4 +1,4 @@
--- Laws of user activation: the stamp of a document step by step, and what the stamp says.
+-- Laws of user activation: the stamp of a document step by step, what the stamp says, and how many documents an event activates.
 use Rattle.std.specs.Prelude.{◌≡◌, ℕ, ◌<◌, ◌≤◌, Bool, false, IsTrue, [], ◌∷◌, length, filter, None, unwrap_or, option_map, if◌then◌else◌}
 use Rattle.pe_base.specs.declared.input.Stamp.{Stamp}
 use Rattle.pe_base.specs.declared.input.Stamp.TheVariants as stamp
