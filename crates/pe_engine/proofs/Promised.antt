@@ -9,7 +9,7 @@ use Rattle.pe_origin.specs.declared.origin.Origin.{Origin}
 use Rattle.pe_allowlist.specs.Lists.{is_policy_controlled}
 use Rattle.pe_policy.specs.Links.{ChainDocument, pair_test, own_test, end_of_chain}
 use Rattle.pe_policy.specs.Denials.{first_failing, denial}
-use Rattle.pe_policy.specs.InheritedPolicy.{inherited_value, inherited_below, value_for}
+use Rattle.pe_policy.specs.InheritedPolicy.{value_by_declared, inherited_value, inherited_below, value_for}
 use Rattle.pe_events.specs.declared.answer.Answer.{Answer}
 use Rattle.pe_events.specs.declared.answer.Answer.TheVariants as answer
 use Rattle.pe_events.specs.declared.cause.Cause.{Cause}
@@ -63,17 +63,21 @@ fails-first f (embedder ∷ child ∷ rest) x h =
 value-inherits : (f : Feature) (links : List ChainDocument) (o : Origin) → value_for f links o ≡ true → inherited_value f links ≡ true
 unfolding value_for inherited_value
 value-inherits f [] o h = refl
-value-inherits f (top ∷ rest) o h = by_test (inherited_below f true top rest) h
+value-inherits f (top ∷ rest) o h = by_test (inherited_below f true top rest) (value_by_declared ((end_of_chain top rest).declared f) o) h
   where
-    by_test : (b : Bool) {x : Bool} → cond (not b) false x ≡ true → b ≡ true
-    by_test true h = refl
-    by_test false h = absurd (true≢false (sym h))
+    by_test : (b x : Bool) → cond (not b) false x ≡ true → b ≡ true
+    by_test true x h = refl
+    by_test false x h = absurd (true≢false (sym h))
 
 enabled-inherits : (T : RepliedHistory) (f : Feature) (d : ℕ) → is_enabled T f d ≡ true → inherited T f d ≡ true
 unfolding is_enabled is_enabled_for inherited
 enabled-inherits T f d h = value-inherits f (chain_documents T d) _ h
 
 -- ---- a document
+
+not-none : {A : Type 0} (o : Option A) → is_none o ≡ false → is_some o ≡ true
+not-none None h = absurd (true≢false h)
+not-none (Some x) h = refl
 
 not-enabled : (b : Bool) → (b ≡ true → ⊥) → b ≡ false
 not-enabled true h = absurd (h refl)
@@ -115,13 +119,9 @@ module _ (laws : HistoryLaws) where
       other : other_cause T now (event.PolicyOf frame name) ≡ None
       other = (none-both (named_cause T (event.PolicyOf frame name)) _ (none-both (time_cause T now) _ (sym (parts T now (event.PolicyOf frame name)) ∙ accepted)).1).1
 
-      by_option : (o : Option _) → is_none o ≡ false → is_some o ≡ true
-      by_option None h = absurd (true≢false h)
-      by_option (Some x) h = refl
-
       by_test : (b : Bool) → lacks_default name ≡ b → lacks_default name ≡ is_none (default_of f) → is_policy_controlled f ≡ true
-      by_test true is same = let some = feature-policy T now frame name is in cc
-      by_test false is same = by_option (default_of f) (sym same ∙ is)
+      by_test true is same = let some = feature-policy T now frame name is in let none = other in cc
+      by_test false is same = not-none (default_of f) (sym same ∙ is)
 
   allowed-in : (T : RepliedHistory) (frame : ℕ) (name : List ℕ) (o : Option ℕ) (p : Option Feature) → document_in T frame ≡ o → feature_named name ≡ p → ((f : Feature) → p ≡ Some f → is_policy_controlled f ≡ true)
       → answer_or_done (option_and_then (λ d. option_map (λ f. answer_of_denial (why_denied T f d)) p) o) ≡ answer.Allowed → IsAllowedIn T frame name
