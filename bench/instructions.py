@@ -1,9 +1,10 @@
-"""Instructions and time of reading and writing a line, and of activation: python3 instructions.py PE_BENCH [NAME..].
+"""Instructions and time of reading and writing a line, of activation and of messages: python3 instructions.py PE_BENCH [NAME..].
 
 For each name of a line or an answer it prints the instructions of one line, as the difference of two counts
 under valgrind, and the nanoseconds of one line, as the least user time of five runs. Every name is one of
 `crates/pe_bench/src/reading.rt` or `crates/pe_bench/src/writing.rt`, or `input` or `consume`, which are measured
-on pages of 16 and 256 frames, flat and deep, with what one more frame costs; without names it takes all of them.
+on pages of 16 and 256 frames, flat and deep, with what one more frame costs, or `messages`, which are posted and
+delivered in 1, 16 and 64 pages with 1 and 256 waiting in each; without names it takes all of them.
 """
 import os
 import re
@@ -67,6 +68,11 @@ def main():
             smaller, larger = SIZES
             more = (calls[larger] - calls[smaller]) / (larger - smaller)
             print(f"{call} {shape}: {calls[smaller] / smaller:,.1f} a frame of {smaller}, {more:,.1f} each more", flush=True)
+    if not wanted or "messages" in wanted:
+        for pages in (1, 16, 64):
+            for waiting in (1, 256):
+                message, nanoseconds = measured(program, "post", str(pages), str(waiting))
+                print(f"post {pages} {waiting}: {message:,.0f} instructions, {nanoseconds:,.0f} ns", flush=True)
 
 
 main()

@@ -1,7 +1,8 @@
 //! The messages of all pages.
-ghost use Rattle.std.specs.Prelude.{◌≡◌, ◌↔◌, ◌<◌, ◌≤◌, ◌+◌, ◌++◌, ◌||◌, ℕ, nat_eq, true, [], ◌∷◌, IfOk, OnOk, OnErr, None, Some, Err, option_map, if◌then◌else◌, vec_len, slice_set};
+ghost use Rattle.std.specs.Prelude.{◌≡◌, ◌↔◌, ◌<◌, ◌≤◌, ◌+◌, ◌++◌, ◌||◌, ℕ, nat_eq, true, [], ◌∷◌, IsTrue, IfOk, OnOk, OnErr, None, Some, Err, option_map, if◌then◌else◌, vec_len, slice_set};
 ghost use Rattle.std.specs.Result.{result_err};
 ghost use Rattle.pe_base.specs.declared.limits.TheConstants.{MESSAGE_LIMIT};
+ghost use Rattle.pe_counts.specs.Counts.{count_of};
 ghost use Rattle.pe_delegation.specs.Posted.{message, message_of, was_given, deliver_fault, waiting_count, without, delivery_of, IsInOrder};
 
 use crate::addressed::Addressed;
@@ -21,7 +22,7 @@ use std::sync::ledger::Ledger;
 
 /// The delegating messages of a session. A message waits until a delivery names it, whatever comes of
 /// that, and also where its page is closed. A message is found by its number, at the cost of a logarithm
-/// of how many were ever posted; one that is settled takes no more than its number and a pointer.
+/// of how many were ever posted; one that is settled leaves its number and an empty slot.
 #[derive(Drop)]
 pub struct Messages {
     // The numbers that were given, rising, and what is kept of the message of each.
@@ -42,6 +43,13 @@ impl Model for Messages {
     ghost view = { λ m. record { waiting = waiting_in m.given.items m.slots.items; given = m.given.items } };
 
     ghost invariant = { λ m. IsKept m.given.items m.slots.items (count_of m.pages) };
+}
+
+// Whether as many messages of the page wait as may.
+fn is_full(pages: &PageCounts, page: FrameNo) -> bool
+    ensures { IsTrue result ↔ (count_of pages.now page ≡ MESSAGE_LIMIT) }
+{
+    pages.get(page) == MESSAGE_LIMIT
 }
 
 // Settles the message at the place.
@@ -109,7 +117,7 @@ impl Messages {
         ensures too_many { (result ≡ Err PostFault.TooMany) ↔ (waiting_count page self.old.waiting ≡ MESSAGE_LIMIT) }
         ensures err { OnErr result (self.new ≡ self.old) }
     {
-        if self.pages.get(page) == MESSAGE_LIMIT {
+        if is_full(&self.pages, page) {
             return Err(PostFault::TooMany);
         }
         if self.given.reserve(1).is_err() || self.slots.reserve(1).is_err() {

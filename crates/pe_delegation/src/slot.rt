@@ -5,7 +5,7 @@ use crate::message::Message;
 use std::alloc::{AllocError, Global};
 use std::marker::Model;
 
-/// A message while it waits, and no more than a pointer once it is settled.
+/// A message while it waits, and an empty place once it is settled.
 #[derive(Drop)]
 pub(crate) struct Slot {
     message: Option<Box<Message>>,
