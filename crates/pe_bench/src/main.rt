@@ -10,6 +10,8 @@
 //! - `input SHAPE SIZE COUNT`: gives the top frame of a page of so many frames so many inputs. `flat`, all stand
 //!   below the top frame; `deep`, in chains of the greatest depth.
 //! - `consume SHAPE SIZE COUNT`: consumes the activation of such a page so many times.
+//! - `store USE ENTRIES COUNT`: uses a store of so many entries so many times: `set` them at random, `find` them,
+//!   `lapse` one after another and set each again, or `lapse-all` at one moment and set them all again.
 //! - `read LINE COUNT`: reads the line of this name so many times, as the name of a verb (`reading`).
 //! - `write ANSWER COUNT`: writes the line of the answer of this name, or of a `change`, so many times (`writing`).
 #![tactic(auto)]
@@ -20,6 +22,7 @@ mod cutter;
 mod fields;
 mod frames;
 mod reading;
+mod store;
 mod writing;
 
 use activation::{Call, call_named};
@@ -27,12 +30,13 @@ use reading::{Line, line_named};
 use std::alloc::{AllocError, Global};
 use std::process::ExitCode;
 use std::{env, io};
+use store::{Use, use_named};
 use writing::{Output, output_named};
 
 /// What is written where the arguments are of no form.
 const USAGE: &str = "usage: pe_bench fields COUNT | cutter BYTES LENGTH PIECE | change COUNT \
 | find COUNT | close PAGES SIZE | leaf LIVE COUNT | input SHAPE SIZE COUNT \
-| consume SHAPE SIZE COUNT | read LINE COUNT | write ANSWER COUNT";
+| consume SHAPE SIZE COUNT | store USE ENTRIES COUNT | read LINE COUNT | write ANSWER COUNT";
 
 /// What is to be measured.
 #[derive(Drop)]
@@ -64,6 +68,11 @@ enum Work {
         flat: bool,
         size: u32,
         count: u32,
+    },
+    Store {
+        used: Use,
+        entries: usize,
+        count: u64,
     },
     Read {
         line: Line,
@@ -125,6 +134,15 @@ fn activation_work(call: &str, shape: &str, size: &str, count: &str) -> Option<W
     })
 }
 
+/// The work in a store.
+fn store_work(used: &str, entries: &str, count: &str) -> Option<Work> {
+    Some(Work::Store {
+        used: use_named(used)?,
+        entries: entries.parse().ok()?,
+        count: count.parse().ok()?,
+    })
+}
+
 /// The work of reading a line of this name so many times.
 fn read_work(line: &str, count: &str) -> Option<Work> {
     Some(Work::Read {
@@ -166,6 +184,9 @@ fn work_of(alloc: Global, words: &[String]) -> Result<Option<Work>, AllocError> 
         [name, first, second] => Ok(frames_work(name.as_str(), first.as_str(), second.as_str())),
         [name, bytes, length, piece] if name.as_str() == "cutter" => {
             Ok(cutter_work(bytes.as_str(), length.as_str(), piece.as_str()))
+        }
+        [name, used, entries, count] if name.as_str() == "store" => {
+            Ok(store_work(used.as_str(), entries.as_str(), count.as_str()))
         }
         [name, shape, size, count] => Ok(activation_work(
             name.as_str(),
@@ -225,6 +246,14 @@ fn done(alloc: Global, work: Work) -> Result<String, AllocError> {
         } => {
             let changed = activation::page_activated(alloc, call, flat, size, count);
             format!(in alloc; "{size} frames, {count} calls, {changed} changed")
+        }
+        Work::Store {
+            used,
+            entries,
+            count,
+        } => {
+            let changed = store::store_used(alloc, used, entries, count)?;
+            format!(in alloc; "{entries} entries, {count} uses, {changed} done")
         }
         Work::Read { line, count } => {
             let reading = reading::lines_read(alloc, line, count)?;
