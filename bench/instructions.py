@@ -1,10 +1,13 @@
 """Instructions and time of reading and writing a line, of activation and of messages: python3 instructions.py PE_BENCH [NAME..].
+"""Instructions and time of reading and writing a line, of activation and of the store: python3 instructions.py PE_BENCH [NAME..].
 
 For each name of a line or an answer it prints the instructions of one line, as the difference of two counts
 under valgrind, and the nanoseconds of one line, as the least user time of five runs. Every name is one of
 `crates/pe_bench/src/reading.rt` or `crates/pe_bench/src/writing.rt`, or `input` or `consume`, which are measured
 on pages of 16 and 256 frames, flat and deep, with what one more frame costs, or `messages`, which are posted and
 delivered in 1, 16 and 64 pages with 1 and 256 waiting in each; without names it takes all of them.
+on pages of 16 and 256 frames, flat and deep, with what one more frame costs, or `store`, which is measured with
+1, 1,000, 8,192 and 65,536 entries; without names it takes all of them.
 """
 import os
 import re
@@ -15,6 +18,7 @@ HERE = os.path.dirname(os.path.abspath(__file__))
 SOURCES = {"read": "reading.rt", "write": "writing.rt"}
 FEW, MORE = 200, 1200
 SIZES = (16, 256)
+ENTRIES = (1, 1_000, 8_192, 65_536)
 
 
 def names(work):
@@ -50,6 +54,25 @@ def measured(program, *work):
     return line, 1e9 * least / count
 
 
+def measured_at_once(program, entries):
+    """The instructions and the nanoseconds of an entry that lapses with all others, and is set again."""
+    few, more = (instructions(program, ("store", "lapse-all", str(entries)), count) for count in (1, 3))
+    count = 655_360 // entries
+    least = min(seconds(program, ("store", "lapse-all", str(entries)), count) for _ in range(5))
+    return (more - few) / (2 * entries), 1e9 * least / (count * entries)
+
+
+def store(program):
+    """What the uses of a store cost."""
+    for use in ("set", "find", "lapse", "lapse-all"):
+        for entries in ENTRIES:
+            if use == "lapse-all":
+                one, nanoseconds = measured_at_once(program, entries)
+            else:
+                one, nanoseconds = measured(program, "store", use, str(entries))
+            print(f"store {use} {entries}: {one:,.0f} instructions, {nanoseconds:,.0f} ns", flush=True)
+
+
 def main():
     program, wanted = sys.argv[1], sys.argv[2:]
     for work in SOURCES:
@@ -73,6 +96,8 @@ def main():
             for waiting in (1, 256):
                 message, nanoseconds = measured(program, "post", str(pages), str(waiting))
                 print(f"post {pages} {waiting}: {message:,.0f} instructions, {nanoseconds:,.0f} ns", flush=True)
+    if not wanted or "store" in wanted:
+        store(program)
 
 
 main()

@@ -24,7 +24,7 @@ use std::sync::ledger::Ledger;
 /// pair of a feature and a key, and how often each pair was dismissed since its last setting.
 /// The entries are ordered by the features' numbers; within a feature a new entry comes last, and a setting of a pair
 /// that is there keeps its place.
-/// Looking up, setting and clearing cost a logarithm of the entries.
+/// Looking up, setting, clearing, dismissing and taking what is due cost a logarithm of the entries.
 #[derive(Drop)]
 pub struct Store {
     alloc: Global,
