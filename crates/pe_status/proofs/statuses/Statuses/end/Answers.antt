@@ -1,8 +1,6 @@
-use Rattle.std.proofs.Common.{◌≡◌, ◌∙◌, sym, ap, subst, ℕ, List, Option, Some, None, ◌≤◌, ◌<◌, arith, is_some, ◌++◌, ◌∷◌, []}
+use Rattle.std.proofs.Common.{◌∙◌, sym, ap, List}
 use Rattle.pe_status.specs.declared.giving.Given.{Given}
-use Rattle.pe_status.specs.declared.registered.Registered.{Registered}
-use Rattle.pe_status.specs.Registry.{Registry, AreBelow, later_under}
-use Rattle.pe_status.specs.Kept.{live_rows, pair_given, numbers, values_from, first_no}
+use Rattle.pe_status.specs.Kept.{live_rows, pair_given}
 use Rattle.pe_status.specs.Places.{value_at}
 use Rattle.pe_status.proofs.Seen.{true-fault, false-fault, unknown-fault, none-ends, status-none, row-group-fits, row-owns, ended-index, ended-live}
 use Rattle.pe_status.proofs.LookUps.{ended-found, ended-count}

@@ -1,4 +1,4 @@
-use Rattle.std.proofs.Common.{◌≡◌, ◌∙◌, sym, subst, List, Option, ℕ, length, ◌<◌}
+use Rattle.std.proofs.Common.{◌∙◌, sym, subst, List, Option, ℕ, length, ◌<◌}
 use Rattle.pe_status.specs.declared.registered.Registered.{Registered}
 use Rattle.pe_status.specs.Kept.{IsOneOf}
 use Rattle.pe_status.proofs.Going.{shorter, gone-step, gone-done}

@@ -1,11 +1,9 @@
-use Rattle.std.proofs.Common.{◌≡◌, ◌∙◌, sym, ap, subst, ℕ, List, Option, Some, None, ◌≤◌, ◌<◌, arith, is_some, ◌++◌, ◌∷◌, []}
+use Rattle.std.proofs.Common.{◌≡◌, ◌∙◌, sym, ap, subst, ℕ, List, ◌≤◌, arith, ◌++◌, ◌∷◌, []}
 use Rattle.pe_status.specs.declared.giving.Given.{Given}
-use Rattle.pe_status.specs.declared.registered.Registered.{Registered}
-use Rattle.pe_status.specs.Registry.{Registry, AreBelow, later_under}
-use Rattle.pe_status.specs.Kept.{IsIndex, live_rows, pair_given, numbers, values_from, first_no}
+use Rattle.pe_status.specs.Registry.{Registry, AreBelow}
+use Rattle.pe_status.specs.Kept.{IsIndex, live_rows}
 use Rattle.pe_status.specs.Places.{value_at}
-use Rattle.pe_base.specs.declared.limits.TheConstants.{STATUS_LIMIT, EVENT_LIMIT}
-use Rattle.pe_counts.specs.Counts.{count_of}
+use Rattle.pe_base.specs.declared.limits.TheConstants.{EVENT_LIMIT}
 use Rattle.pe_status.proofs.Seen.{unowned, alike-index, entered-index, entered-live}
 use Rattle.pe_status.proofs.LookUps.{entered-found, entered-count, entered-next}
 use Rattle.pe_status.proofs.statuses.Statuses.query.Goals as goal
