@@ -116,7 +116,7 @@ module _ (same : (x y : Pair) → Decides (is_same_pair x y) (x ≡ y)) where
   among-removed : (pair : Pair) (number : ℕ) (own : Pair) (qs : List (ℕ × Pair)) → AreSingle qs → lookup (nat_eq number) qs ≡ Some own
       → number_among pair (remove_entry (nat_eq number) qs) ≡ cond (is_same_pair own pair) None (number_among pair qs)
   among-removed pair number own [] h k = absurd cc
-  among-removed pair number own (q ∷ qs) h k = by_number (nat_eq number q.0) k
+  among-removed pair number own (q ∷ qs) h k = by_number (among-removed pair number own qs h.1) (nat_eq number q.0) k
     where
       here : (b : Bool) → is_same_pair q.1 pair ≡ b → number_among pair qs ≡ cond b None (cond b (Some q.0) (number_among pair qs))
       here true e = ap (λ (x : Pair). number_among x qs) (sym ((same q.1 pair).0 e)) ∙ h.0
@@ -131,13 +131,14 @@ module _ (same : (x y : Pair) → Decides (is_same_pair x y) (x ≡ y)) where
       behind l false e true f = refl
       behind l false e false f = refl
 
-      by_number : (b : Bool) → cond b (Some q.1) (lookup (nat_eq number) qs) ≡ Some own
+      by_number : (lookup (nat_eq number) qs ≡ Some own → number_among pair (remove_entry (nat_eq number) qs) ≡ cond (is_same_pair own pair) None (number_among pair qs))
+          → (b : Bool) → cond b (Some q.1) (lookup (nat_eq number) qs) ≡ Some own
           → number_among pair (cond b qs (q ∷ remove_entry (nat_eq number) qs)) ≡ cond (is_same_pair own pair) None (cond (is_same_pair q.1 pair) (Some q.0) (number_among pair qs))
-      by_number true l =
+      by_number rest true l =
           let is : q.1 ≡ own = cc in
           here (is_same_pair q.1 pair) refl ∙ ap (λ (x : Pair). cond (is_same_pair x pair) None (cond (is_same_pair q.1 pair) (Some q.0) (number_among pair qs))) is
-      by_number false l =
-          ap (cond (is_same_pair q.1 pair) (Some q.0)) (among-removed pair number own qs h.1 l)
+      by_number rest false l =
+          ap (cond (is_same_pair q.1 pair) (Some q.0)) (rest l)
           ∙ behind l (is_same_pair q.1 pair) refl (is_same_pair own pair) refl
 
   -- the index of the prompts, once one is put behind them

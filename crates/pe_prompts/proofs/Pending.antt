@@ -1,6 +1,6 @@
 -- What requests, answers and documents that go leave of the pending prompts of a page.
-use Rattle.std.proofs.Common.{◌≡◌, ℕ, suc, ◌<◌, ◌≤◌, Bool, true, false, cond, not, List, [], ◌∷◌, ◌++◌, length, filter, Option, None, Some, IsSome, nat_eq, refl, sym, ap, subst, ◌∙◌, true≢false, inl, inr, arith}
-use Rattle.std.specs.Map.{lookup, set_value, remove_entry, keys_of}
+use Rattle.std.proofs.Common.{◌≡◌, ℕ, suc, ◌<◌, ◌≤◌, true, false, cond, not, List, [], ◌∷◌, ◌++◌, length, None, Some, IsSome, nat_eq, refl, sym, ap, subst, ◌∙◌, true≢false, inl, inr, arith}
+use Rattle.std.specs.Map.{set_value, remove_entry, keys_of}
 use Rattle.std.specs.BTreeMap.{insert_entry, is_at}
 use Rattle.std.specs.Cmp.{unsigned_tied}
 use Rattle.std.specs.List.{AllByRecursion}
@@ -15,7 +15,7 @@ use Rattle.pe_prompts.specs.declared.queue.Prompt.{Prompt}
 use Rattle.pe_prompts.specs.Lists.{IsIn, Each}
 use Rattle.pe_prompts.specs.Requests.{is_of, without}
 use Rattle.pe_prompts.specs.Pending.{Pending, prompt_in, pair_of, number_for, with_request, joined, if_awaited, left, left_in, all_left, left_by}
-use Rattle.pe_prompts.proofs.Items.{same_number, Each-then, Each-filter, Each-passing}
+use Rattle.pe_prompts.proofs.Items.{same_number, Each-then, Each-passing}
 
 -- a request that joins is put behind the others
 pub set_value-joined : (number : ℕ) (asker : DocRef) (ps : Pending) (p : Prompt) → prompt_in number ps ≡ Some p → set_value (nat_eq number) ps (with_request asker p) ≡ joined number asker ps
