@@ -10,6 +10,11 @@
 //! - `input SHAPE SIZE COUNT`: gives the top frame of a page of so many frames so many inputs. `flat`, all stand
 //!   below the top frame; `deep`, in chains of the greatest depth.
 //! - `consume SHAPE SIZE COUNT`: consumes the activation of such a page so many times.
+//! - `statuses LIVE COUNT`: makes and releases a permission status so many times, where so many others are live.
+//! - `walk PAIRS SIZE COUNT`: walks over the live statuses of each of so many pairs so many times, where each pair
+//!   has so many.
+//! - `prompts PAGES PENDING COUNT`: joins the oldest prompt of each of so many pages in turn, answers it and makes
+//!   it anew, so many times, where so many prompts are pending in each page.
 //! - `read LINE COUNT`: reads the line of this name so many times, as the name of a verb (`reading`).
 //! - `write ANSWER COUNT`: writes the line of the answer of this name, or of a `change`, so many times (`writing`).
 #![tactic(auto)]
@@ -19,7 +24,10 @@ mod arena;
 mod cutter;
 mod fields;
 mod frames;
+mod numbered;
+mod prompts;
 mod reading;
+mod statuses;
 mod writing;
 
 use activation::{Call, call_named};
@@ -32,7 +40,8 @@ use writing::{Output, output_named};
 /// What is written where the arguments are of no form.
 const USAGE: &str = "usage: pe_bench fields COUNT | cutter BYTES LENGTH PIECE | change COUNT \
 | find COUNT | close PAGES SIZE | leaf LIVE COUNT | input SHAPE SIZE COUNT \
-| consume SHAPE SIZE COUNT | read LINE COUNT | write ANSWER COUNT";
+| consume SHAPE SIZE COUNT | statuses LIVE COUNT | walk PAIRS SIZE COUNT \
+| prompts PAGES PENDING COUNT | read LINE COUNT | write ANSWER COUNT";
 
 /// What is to be measured.
 #[derive(Drop)]
@@ -63,6 +72,20 @@ enum Work {
         call: Call,
         flat: bool,
         size: u32,
+        count: u32,
+    },
+    Statuses {
+        live: u32,
+        count: u32,
+    },
+    Walk {
+        pairs: u32,
+        size: u32,
+        count: u32,
+    },
+    Prompts {
+        pages: u32,
+        pending: u32,
         count: u32,
     },
     Read {
@@ -96,7 +119,7 @@ fn counted_work(name: &str, count: &str) -> Option<Work> {
 }
 
 /// The work of this name that takes two numbers.
-fn frames_work(name: &str, first: &str, second: &str) -> Option<Work> {
+fn paired_work(name: &str, first: &str, second: &str) -> Option<Work> {
     if name == "close" {
         return Some(Work::Close {
             pages: first.parse().ok()?,
@@ -107,6 +130,31 @@ fn frames_work(name: &str, first: &str, second: &str) -> Option<Work> {
         return Some(Work::Leaf {
             live: first.parse().ok()?,
             count: second.parse().ok()?,
+        });
+    }
+    if name == "statuses" {
+        return Some(Work::Statuses {
+            live: first.parse().ok()?,
+            count: second.parse().ok()?,
+        });
+    }
+    None
+}
+
+/// The work of this name that is done so many times over groups of one size.
+fn grouped_work(name: &str, groups: &str, size: &str, count: &str) -> Option<Work> {
+    if name == "walk" {
+        return Some(Work::Walk {
+            pairs: groups.parse().ok()?,
+            size: size.parse().ok()?,
+            count: count.parse().ok()?,
+        });
+    }
+    if name == "prompts" {
+        return Some(Work::Prompts {
+            pages: groups.parse().ok()?,
+            pending: size.parse().ok()?,
+            count: count.parse().ok()?,
         });
     }
     None
@@ -163,9 +211,17 @@ fn work_of(alloc: Global, words: &[String]) -> Result<Option<Work>, AllocError> 
         [name, output, count] if name.as_str() == "write" => {
             write_work(alloc, output.as_str(), count.as_str())
         }
-        [name, first, second] => Ok(frames_work(name.as_str(), first.as_str(), second.as_str())),
+        [name, first, second] => Ok(paired_work(name.as_str(), first.as_str(), second.as_str())),
         [name, bytes, length, piece] if name.as_str() == "cutter" => {
             Ok(cutter_work(bytes.as_str(), length.as_str(), piece.as_str()))
+        }
+        [name, groups, size, count] if name.as_str() == "walk" || name.as_str() == "prompts" => {
+            Ok(grouped_work(
+                name.as_str(),
+                groups.as_str(),
+                size.as_str(),
+                count.as_str(),
+            ))
         }
         [name, shape, size, count] => Ok(activation_work(
             name.as_str(),
@@ -225,6 +281,22 @@ fn done(alloc: Global, work: Work) -> Result<String, AllocError> {
         } => {
             let changed = activation::page_activated(alloc, call, flat, size, count);
             format!(in alloc; "{size} frames, {count} calls, {changed} changed")
+        }
+        Work::Statuses { live, count } => {
+            let changed = statuses::statuses_changed(alloc, live, count);
+            format!(in alloc; "{live} live statuses, {changed} made and released")
+        }
+        Work::Walk { pairs, size, count } => {
+            let walked = statuses::statuses_walked(alloc, pairs, size, count);
+            format!(in alloc; "{pairs} pairs, {count} walks of each, {walked} statuses given")
+        }
+        Work::Prompts {
+            pages,
+            pending,
+            count,
+        } => {
+            let answered = prompts::requests_answered(alloc, pages, pending, count);
+            format!(in alloc; "{pages} pages of {pending} prompts, {answered} requests answered")
         }
         Work::Read { line, count } => {
             let reading = reading::lines_read(alloc, line, count)?;
