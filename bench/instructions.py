@@ -1,9 +1,10 @@
-"""Instructions and time of reading and writing a line, and of activation: python3 instructions.py PE_BENCH [NAME..].
+"""Instructions and time of the works of pe_bench: python3 instructions.py PE_BENCH [NAME..].
 
 For each name of a line or an answer it prints the instructions of one line, as the difference of two counts
 under valgrind, and the nanoseconds of one line, as the least user time of five runs. Every name is one of
 `crates/pe_bench/src/reading.rt` or `crates/pe_bench/src/writing.rt`, or `input` or `consume`, which are measured
-on pages of 16 and 256 frames, flat and deep, with what one more frame costs; without names it takes all of them.
+on pages of 16 and 256 frames, flat and deep, with what one more frame costs, or `statuses`, `walk` or `prompts`,
+which are measured on each of the sizes below; without names it takes all of them.
 """
 import os
 import re
@@ -14,6 +15,10 @@ HERE = os.path.dirname(os.path.abspath(__file__))
 SOURCES = {"read": "reading.rt", "write": "writing.rt"}
 FEW, MORE = 200, 1200
 SIZES = (16, 256)
+# Live statuses; pairs and the statuses of each; pages and the pending prompts of each.
+SIZED = [("statuses", str(live)) for live in (1_024, 16_384)]
+SIZED += [("walk", "1", "16384"), ("walk", "64", "256")]
+SIZED += [("prompts", str(pages), str(pending)) for pending in (1, 256) for pages in (1, 16, 64)]
 
 
 def names(work):
@@ -67,6 +72,10 @@ def main():
             smaller, larger = SIZES
             more = (calls[larger] - calls[smaller]) / (larger - smaller)
             print(f"{call} {shape}: {calls[smaller] / smaller:,.1f} a frame of {smaller}, {more:,.1f} each more", flush=True)
+    for work in SIZED:
+        if not wanted or work[0] in wanted:
+            call, nanoseconds = measured(program, *work)
+            print(f"{' '.join(work)}: {call:,.0f} instructions, {nanoseconds:,.0f} ns", flush=True)
 
 
 main()
