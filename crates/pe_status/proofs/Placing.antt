@@ -37,10 +37,6 @@ pub value-unchanged : {X : Type 0} (old new : BTreeMap Place X) → new.entries 
 unfolding value_at
 value-unchanged old new h g n = ap (lookup (is_at (place_cmp (place g n)))) h
 
-pub taken-unchanged : (old new : BTreeSet Place) → new.keys ≡ old.keys → (g n : ℕ) → is_taken new g n ≡ is_taken old g n
-unfolding is_taken
-taken-unchanged old new h g n = ap (list_any (is_at (place_cmp (place g n)))) h
-
 pub value-empty : {X : Type 0} (m : BTreeMap Place X) → m.entries ≡ [] → (g n : ℕ) → value_at m g n ≡ None
 unfolding value_at
 value-empty m h g n = ap (lookup (is_at (place_cmp (place g n)))) h

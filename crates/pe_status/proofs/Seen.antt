@@ -124,9 +124,6 @@ row-owns gs x k g n = by_row (value_at x.rows g n) refl
 pub alike-index : (gs : List Given) (x y : Index) → IsIndex gs x → IsAlike x y → IsIndex gs y
 alike-index gs x y k a = kept-alike a.left.rows a.pairs a.left.owned a.left.pages k
 
-pub alike-seen : (gs : List Given) (x y : Index) → IsAlike x y → seen gs y ≡ seen gs x
-alike-seen gs x y a = ap (λ (rs : List Registered). record { live = rs; given = numbers gs }) (live-same (value_at x.rows) (value_at y.rows) a.left.rows gs)
-
 module _ (same : (p q : Pair) → Decides (is_same_pair p q) (p ≡ q)) (gs : List Given) (x y : Index) (k : IsIndex gs x) where
   -- a status ends
   ended : (g n : ℕ) (o : Option Registered) → value_at x.rows g n ≡ o → IfSome o (λ r. IsWithout r g x y) → (o ≡ None → IsAlike x y) → IsIndex gs y
