@@ -1,5 +1,12 @@
-"""Instructions and time of reading and writing a line, of activation and of messages: python3 instructions.py PE_BENCH [NAME..].
+"""Instructions and time of the works of pe_bench: python3 instructions.py PE_BENCH [NAME..].
+
+For each name of a line or an answer it prints the instructions of one line, as the difference of two counts
+under valgrind, and the nanoseconds of one line, as the least user time of five runs. Every name is one of
+`crates/pe_bench/src/reading.rt` or `crates/pe_bench/src/writing.rt`, or `input` or `consume`, which are measured
+on pages of 16 and 256 frames, flat and deep, with what one more frame costs, or `messages`, `store`, `statuses`,
+`walk` or `prompts`, which are measured on each of the sizes below; without names it takes all of them.
 """Instructions and time of reading and writing a line, of activation and of the store: python3 instructions.py PE_BENCH [NAME..].
+"""Instructions and time of the works of pe_bench: python3 instructions.py PE_BENCH [NAME..].
 
 For each name of a line or an answer it prints the instructions of one line, as the difference of two counts
 under valgrind, and the nanoseconds of one line, as the least user time of five runs. Every name is one of
@@ -8,6 +15,8 @@ on pages of 16 and 256 frames, flat and deep, with what one more frame costs, or
 delivered in 1, 16 and 64 pages with 1 and 256 waiting in each; without names it takes all of them.
 on pages of 16 and 256 frames, flat and deep, with what one more frame costs, or `store`, which is measured with
 1, 1,000, 8,192 and 65,536 entries; without names it takes all of them.
+on pages of 16 and 256 frames, flat and deep, with what one more frame costs, or `statuses`, `walk` or `prompts`,
+which are measured on each of the sizes below; without names it takes all of them.
 """
 import os
 import re
@@ -19,6 +28,10 @@ SOURCES = {"read": "reading.rt", "write": "writing.rt"}
 FEW, MORE = 200, 1200
 SIZES = (16, 256)
 ENTRIES = (1, 1_000, 8_192, 65_536)
+# Live statuses; pairs and the statuses of each; pages and the pending prompts of each.
+SIZED = [("statuses", str(live)) for live in (1_024, 16_384)]
+SIZED += [("walk", "1", "16384"), ("walk", "64", "256")]
+SIZED += [("prompts", str(pages), str(pending)) for pending in (1, 256) for pages in (1, 16, 64)]
 
 
 def names(work):
@@ -98,6 +111,10 @@ def main():
                 print(f"post {pages} {waiting}: {message:,.0f} instructions, {nanoseconds:,.0f} ns", flush=True)
     if not wanted or "store" in wanted:
         store(program)
+    for work in SIZED:
+        if not wanted or work[0] in wanted:
+            call, nanoseconds = measured(program, *work)
+            print(f"{' '.join(work)}: {call:,.0f} instructions, {nanoseconds:,.0f} ns", flush=True)
 
 
 main()

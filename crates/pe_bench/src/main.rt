@@ -10,8 +10,15 @@
 //! - `input SHAPE SIZE COUNT`: gives the top frame of a page of so many frames so many inputs. `flat`, all stand
 //!   below the top frame; `deep`, in chains of the greatest depth.
 //! - `consume SHAPE SIZE COUNT`: consumes the activation of such a page so many times.
+//! - `statuses LIVE COUNT`: makes and releases a permission status so many times, where so many others are live.
+//! - `walk PAIRS SIZE COUNT`: walks over the live statuses of each of so many pairs so many times, where each pair
+//!   has so many.
+//! - `prompts PAGES PENDING COUNT`: joins the oldest prompt of each of so many pages in turn, answers it and makes
+//!   it anew, so many times, where so many prompts are pending in each page.
 //! - `post PAGES WAITING COUNT`: posts so many messages in so many pages and delivers each, once so many of its page
 //!   wait.
+//! - `store USE ENTRIES COUNT`: uses a store of so many entries so many times: `set` them at random, `find` them,
+//!   `lapse` one after another and set each again, or `lapse-all` at one moment and set them all again.
 //! - `read LINE COUNT`: reads the line of this name so many times, as the name of a verb (`reading`).
 //! - `write ANSWER COUNT`: writes the line of the answer of this name, or of a `change`, so many times (`writing`).
 #![tactic(auto)]
@@ -22,7 +29,11 @@ mod cutter;
 mod fields;
 mod frames;
 mod messages;
+mod numbered;
+mod prompts;
 mod reading;
+mod statuses;
+mod store;
 mod writing;
 
 use activation::{Call, call_named};
@@ -30,12 +41,14 @@ use reading::{Line, line_named};
 use std::alloc::{AllocError, Global};
 use std::process::ExitCode;
 use std::{env, io};
+use store::{Use, use_named};
 use writing::{Output, output_named};
 
 /// What is written where the arguments are of no form.
 const USAGE: &str = "usage: pe_bench fields COUNT | cutter BYTES LENGTH PIECE | change COUNT \
 | find COUNT | close PAGES SIZE | leaf LIVE COUNT | input SHAPE SIZE COUNT \
-| consume SHAPE SIZE COUNT | post PAGES WAITING COUNT | read LINE COUNT | write ANSWER COUNT";
+| consume SHAPE SIZE COUNT | statuses LIVE COUNT | walk PAIRS SIZE COUNT \
+| prompts PAGES PENDING COUNT | post PAGES WAITING COUNT | store USE ENTRIES COUNT | read LINE COUNT | write ANSWER COUNT";
 
 /// What is to be measured.
 #[derive(Drop)]
@@ -68,10 +81,29 @@ enum Work {
         size: u32,
         count: u32,
     },
+    Statuses {
+        live: u32,
+        count: u32,
+    },
+    Walk {
+        pairs: u32,
+        size: u32,
+        count: u32,
+    },
+    Prompts {
+        pages: u32,
+        pending: u32,
+        count: u32,
+    },
     Post {
         pages: u32,
         waiting: u32,
         count: u32,
+    },
+    Store {
+        used: Use,
+        entries: usize,
+        count: u64,
     },
     Read {
         line: Line,
@@ -104,7 +136,7 @@ fn counted_work(name: &str, count: &str) -> Option<Work> {
 }
 
 /// The work of this name that takes two numbers.
-fn frames_work(name: &str, first: &str, second: &str) -> Option<Work> {
+fn paired_work(name: &str, first: &str, second: &str) -> Option<Work> {
     if name == "close" {
         return Some(Work::Close {
             pages: first.parse().ok()?,
@@ -115,6 +147,43 @@ fn frames_work(name: &str, first: &str, second: &str) -> Option<Work> {
         return Some(Work::Leaf {
             live: first.parse().ok()?,
             count: second.parse().ok()?,
+        });
+    }
+    if name == "statuses" {
+        return Some(Work::Statuses {
+            live: first.parse().ok()?,
+            count: second.parse().ok()?,
+        });
+    }
+    None
+}
+
+/// Whether the work of this name is done over groups of one size.
+fn is_grouped(name: &str) -> bool {
+    name == "walk" || name == "prompts" || name == "post"
+}
+
+/// The work of this name that is done so many times over groups of one size.
+fn grouped_work(name: &str, groups: &str, size: &str, count: &str) -> Option<Work> {
+    if name == "walk" {
+        return Some(Work::Walk {
+            pairs: groups.parse().ok()?,
+            size: size.parse().ok()?,
+            count: count.parse().ok()?,
+        });
+    }
+    if name == "prompts" {
+        return Some(Work::Prompts {
+            pages: groups.parse().ok()?,
+            pending: size.parse().ok()?,
+            count: count.parse().ok()?,
+        });
+    }
+    if name == "post" {
+        return Some(Work::Post {
+            pages: groups.parse().ok()?,
+            waiting: size.parse().ok()?,
+            count: count.parse().ok()?,
         });
     }
     None
@@ -133,11 +202,11 @@ fn activation_work(call: &str, shape: &str, size: &str, count: &str) -> Option<W
     })
 }
 
-/// The work of posting and delivering messages.
-fn post_work(pages: &str, waiting: &str, count: &str) -> Option<Work> {
-    Some(Work::Post {
-        pages: pages.parse().ok()?,
-        waiting: waiting.parse().ok()?,
+/// The work in a store.
+fn store_work(used: &str, entries: &str, count: &str) -> Option<Work> {
+    Some(Work::Store {
+        used: use_named(used)?,
+        entries: entries.parse().ok()?,
         count: count.parse().ok()?,
     })
 }
@@ -180,15 +249,21 @@ fn work_of(alloc: Global, words: &[String]) -> Result<Option<Work>, AllocError> 
         [name, output, count] if name.as_str() == "write" => {
             write_work(alloc, output.as_str(), count.as_str())
         }
-        [name, first, second] => Ok(frames_work(name.as_str(), first.as_str(), second.as_str())),
+        [name, first, second] => Ok(paired_work(name.as_str(), first.as_str(), second.as_str())),
         [name, bytes, length, piece] if name.as_str() == "cutter" => {
             Ok(cutter_work(bytes.as_str(), length.as_str(), piece.as_str()))
         }
-        [name, pages, waiting, count] if name.as_str() == "post" => Ok(post_work(
-            pages.as_str(),
-            waiting.as_str(),
-            count.as_str(),
-        )),
+        [name, used, entries, count] if name.as_str() == "store" => {
+            Ok(store_work(used.as_str(), entries.as_str(), count.as_str()))
+        }
+        [name, groups, size, count] if is_grouped(name.as_str()) => {
+            Ok(grouped_work(
+                name.as_str(),
+                groups.as_str(),
+                size.as_str(),
+                count.as_str(),
+            ))
+        }
         [name, shape, size, count] => Ok(activation_work(
             name.as_str(),
             shape.as_str(),
@@ -248,6 +323,22 @@ fn done(alloc: Global, work: Work) -> Result<String, AllocError> {
             let changed = activation::page_activated(alloc, call, flat, size, count);
             format!(in alloc; "{size} frames, {count} calls, {changed} changed")
         }
+        Work::Statuses { live, count } => {
+            let changed = statuses::statuses_changed(alloc, live, count);
+            format!(in alloc; "{live} live statuses, {changed} made and released")
+        }
+        Work::Walk { pairs, size, count } => {
+            let walked = statuses::statuses_walked(alloc, pairs, size, count);
+            format!(in alloc; "{pairs} pairs, {count} walks of each, {walked} statuses given")
+        }
+        Work::Prompts {
+            pages,
+            pending,
+            count,
+        } => {
+            let answered = prompts::requests_answered(alloc, pages, pending, count);
+            format!(in alloc; "{pages} pages of {pending} prompts, {answered} requests answered")
+        }
         Work::Post {
             pages,
             waiting,
@@ -255,6 +346,14 @@ fn done(alloc: Global, work: Work) -> Result<String, AllocError> {
         } => {
             let put = messages::capabilities_put(alloc, pages, waiting, count)?;
             format!(in alloc; "{count} messages, {put} capabilities put")
+        }
+        Work::Store {
+            used,
+            entries,
+            count,
+        } => {
+            let changed = store::store_used(alloc, used, entries, count)?;
+            format!(in alloc; "{entries} entries, {count} uses, {changed} done")
         }
         Work::Read { line, count } => {
             let reading = reading::lines_read(alloc, line, count)?;

@@ -1,5 +1,5 @@
 -- What requests, answers and documents that go leave of the prompts that are kept.
-use Rattle.std.proofs.Common.{◌≡◌, ℕ, ◌<◌, ◌≤◌, Bool, true, false, cond, not, List, [], ◌∷◌, ◌++◌, length, length-append, filter, Option, None, Some, IsSome, nat_eq, refl, sym, ap, subst, ◌∙◌, true≢false, arith}
+use Rattle.std.proofs.Common.{◌≡◌, ℕ, ◌<◌, ◌≤◌, Bool, true, false, cond, not, List, [], ◌∷◌, ◌++◌, length, length-append, Option, None, Some, IsSome, nat_eq, refl, sym, ap, subst, ◌∙◌, true≢false, arith}
 use Rattle.std.specs.Map.{remove_entry}
 use Rattle.std.proofs.lemmas.Bool.Decides.{nat_tests}
 use Rattle.indexmap.specs.IndexMap.{IndexMap, get}
@@ -7,7 +7,7 @@ use Rattle.pe_arena.specs.declared.handle.DocRef.{DocRef}
 use Rattle.pe_prompts.specs.declared.given.Given.{Given}
 use Rattle.pe_prompts.specs.declared.queue.Prompt.{Prompt}
 use Rattle.pe_prompts.specs.Lists.{IsIn, Each}
-use Rattle.pe_prompts.specs.Requests.{is_of, without}
+use Rattle.pe_prompts.specs.Requests.{is_of}
 use Rattle.pe_prompts.specs.Pending.{Pending, prompt_in, with_request, joined, left_by}
 use Rattle.pe_prompts.specs.Queues.{at_page}
 use Rattle.pe_prompts.specs.Kept.{IsKept}

@@ -2,3 +2,4 @@ pub mod Items
 pub mod Requests
 pub mod Pending
 pub mod Kept
+pub mod Indexed

@@ -1,12 +1,10 @@
 -- What requests, answers and documents that go leave of the pending prompts of a page.
-use Rattle.std.proofs.Common.{◌≡◌, ℕ, suc, ◌<◌, ◌≤◌, Bool, true, false, cond, not, List, [], ◌∷◌, ◌++◌, length, filter, Option, None, Some, IsSome, nat_eq, refl, sym, ap, subst, ◌∙◌, true≢false, inl, inr, arith}
-use Rattle.std.specs.Map.{lookup, set_value, remove_entry, keys_of}
+use Rattle.std.proofs.Common.{◌≡◌, ℕ, suc, ◌<◌, ◌≤◌, true, false, cond, not, List, [], ◌∷◌, ◌++◌, length, None, Some, IsSome, nat_eq, refl, sym, ap, subst, ◌∙◌, true≢false, inl, inr, arith}
+use Rattle.std.specs.Map.{set_value, remove_entry, keys_of}
 use Rattle.std.specs.BTreeMap.{insert_entry, is_at}
 use Rattle.std.specs.Cmp.{unsigned_tied}
 use Rattle.std.specs.List.{AllByRecursion}
 use Rattle.std.specs.List.Sorted.{IsStrictlySortedBy}
-use Rattle.std.specs.Prelude.{find, option_map}
-use Rattle.pe_store.specs.Pairs.{Pair, is_same_pair}
 use Rattle.std.specs.Ordering.{nat_cmp, match_ordering}
 use Rattle.std.specs.declared.cmp.Ordering.TheVariants.{Less, Greater}
 use Rattle.std.proofs.lemmas.Bool.Decides.{nat_tests}
@@ -14,8 +12,8 @@ use Rattle.pe_arena.specs.declared.handle.DocRef.{DocRef}
 use Rattle.pe_prompts.specs.declared.queue.Prompt.{Prompt}
 use Rattle.pe_prompts.specs.Lists.{IsIn, Each}
 use Rattle.pe_prompts.specs.Requests.{is_of, without}
-use Rattle.pe_prompts.specs.Pending.{Pending, prompt_in, pair_of, number_for, with_request, joined, if_awaited, left, left_in, all_left, left_by}
-use Rattle.pe_prompts.proofs.Items.{same_number, Each-then, Each-filter, Each-passing}
+use Rattle.pe_prompts.specs.Pending.{Pending, prompt_in, with_request, joined, if_awaited, left, left_in, all_left, left_by}
+use Rattle.pe_prompts.proofs.Items.{same_number, Each-then, Each-passing}
 
 -- a request that joins is put behind the others
 pub set_value-joined : (number : ℕ) (asker : DocRef) (ps : Pending) (p : Prompt) → prompt_in number ps ≡ Some p → set_value (nat_eq number) ps (with_request asker p) ≡ joined number asker ps
@@ -233,17 +231,6 @@ length-remove_entry number (e ∷ ps) =
 pub same_test : (n : ℕ) → is_at (nat_cmp n) ≡ nat_eq n
 same_test n = λ j y. unsigned_tied n y j
 
--- the first of more prompts
-pub number_for-some : (pair : Pair) (e : ℕ × Prompt) (ps : Pending) (k : ℕ) → number_for pair (e ∷ []) ≡ Some k → number_for pair (e ∷ ps) ≡ Some k
-number_for-some pair e ps k h =
-    (elim (is_same_pair (pair_of e.1) pair) as (λ b. option_map (λ p. p.0) (cond b (Some e) None) ≡ Some k → option_map (λ p. p.0) (cond b (Some e) (find (λ p. is_same_pair (pair_of p.1) pair) ps)) ≡ Some k)
-    [ true ↦ λ q. q | false ↦ λ q. absurd cc ]) h
-
-pub number_for-none : (pair : Pair) (e : ℕ × Prompt) (ps : Pending) → number_for pair (e ∷ []) ≡ None → number_for pair (e ∷ ps) ≡ number_for pair ps
-number_for-none pair e ps h =
-    (elim (is_same_pair (pair_of e.1) pair) as (λ b. option_map (λ p. p.0) (cond b (Some e) None) ≡ None → option_map (λ p. p.0) (cond b (Some e) (find (λ p. is_same_pair (pair_of p.1) pair) ps)) ≡ number_for pair ps)
-    [ true ↦ λ q. absurd cc | false ↦ λ q. refl ]) h
-
 -- sorted numbers are apart
 pub AreApart-ordered : (ps : Pending) → IsStrictlySortedBy nat_cmp (keys_of ps) → AreApart ps
 unfolding IsStrictlySortedBy
@@ -264,9 +251,3 @@ left-kept number doc ps p (r ∷ rs) apart h e some = set_value-left number doc 
 
 pub left-emptied : (number doc : ℕ) (ps : Pending) (p : Prompt) (w : List DocRef) → AreApart ps → prompt_in number ps ≡ Some p → w ≡ without doc p.waiting → w ≡ [] → remove_entry (nat_eq number) (set_value (nat_eq number) ps (record p { waiting = w })) ≡ left number doc ps
 left-emptied number doc ps p w apart h e none = remove_entry-set_value number ps (record p { waiting = w }) ∙ remove_entry-left number doc ps p apart h (sym e ∙ none)
-
-pub length-set_value : (number : ℕ) (ps : Pending) (p : Prompt) → length (set_value (nat_eq number) ps p) ≡ length ps
-length-set_value number [] p = refl
-length-set_value number (e ∷ ps) p =
-    let rest = length-set_value number ps p in
-    elim (nat_eq number e.0) as (λ b. length (cond b ((e.0, p) ∷ ps) (e ∷ set_value (nat_eq number) ps p)) ≡ suc (length ps)) [ true ↦ refl | false ↦ ap suc rest ]

@@ -1,9 +1,9 @@
 -- Requests, their places, and what is taken out.
-use Rattle.std.proofs.Common.{◌≡◌, ◌⊎◌, ℕ, zero, suc, ◌+◌, ◌<◌, ◌≤◌, slice_set, get_or, take, Bool, true, false, cond, not, List, [], ◌∷◌, ◌++◌, length, filter, Option, None, Some, slice_get, refl, sym, ap, subst, ◌∙◌, true≢false, inl, inr, arith}
+use Rattle.std.proofs.Common.{◌≡◌, ◌⊎◌, ℕ, zero, suc, ◌+◌, ◌<◌, ◌≤◌, slice_set, get_or, take, true, false, cond, not, List, [], ◌∷◌, ◌++◌, length, Option, None, Some, slice_get, refl, sym, ap, subst, ◌∙◌, true≢false, inl, inr, arith}
 use Rattle.std.specs.Prelude.{option_to_list}
 use Rattle.pe_arena.specs.declared.handle.DocRef.{DocRef}
 use Rattle.pe_prompts.specs.Lists.{IsIn}
-use Rattle.pe_prompts.specs.Requests.{somes, is_of, without, holds, emptied, has_once, cleared, cleared_count, all_cleared, AreListed}
+use Rattle.pe_prompts.specs.Requests.{somes, is_of, without, holds, cleared, cleared_count, all_cleared, AreListed}
 
 -- the values of one more
 pub somes-push : {A : Type 0} (xs : List (Option A)) (x : A) → somes (xs ++ Some x ∷ []) ≡ somes xs ++ x ∷ []

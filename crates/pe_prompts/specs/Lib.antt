@@ -2,4 +2,5 @@ pub mod Lists
 pub mod Requests
 pub mod Pending
 pub mod Queues
+pub mod Indexed
 pub mod Kept

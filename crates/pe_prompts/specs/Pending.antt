@@ -1,9 +1,7 @@
 -- The pending prompts of a page, oldest first: the queue of prompts is this project's own.
-use Rattle.std.specs.Prelude.{◌≡◌, ℕ, Bool, if◌then◌else◌, List, [], ◌∷◌, ◌++◌, Option, None, Some, false, unwrap_or, option_map, find, slice_get, nat_eq}
+use Rattle.std.specs.Prelude.{ℕ, Bool, if◌then◌else◌, List, [], ◌∷◌, ◌++◌, Option, false, unwrap_or, option_map, find, slice_get, nat_eq}
 use Rattle.std.specs.Map.{lookup}
 use Rattle.pe_arena.specs.declared.handle.DocRef.{DocRef}
-use Rattle.pe_features.specs.declared.feature.Feature.{Feature}
-use Rattle.pe_store.specs.declared.key.Key.{Key}
 use Rattle.pe_store.specs.Pairs.{Pair, is_same_pair}
 use Rattle.pe_prompts.specs.declared.queue.Prompt.{Prompt}
 use Rattle.pe_prompts.specs.Requests.{without}

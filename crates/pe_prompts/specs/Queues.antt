@@ -1,6 +1,6 @@
 -- Prompts: which were given, which are settled, and which are pending in each page.
 -- Permissions, "request permission to use"; the queue of prompts is this project's own.
-use Rattle.std.specs.Prelude.{◌≡◌, ℕ, Bool, true, false, if◌then◌else◌, List, [], ◌∷◌, ◌++◌, Option, None, Some, is_none, unwrap_or, option_map, option_and_then, nat_eq}
+use Rattle.std.specs.Prelude.{◌≡◌, ℕ, true, false, if◌then◌else◌, List, [], ◌∷◌, ◌++◌, Option, None, Some, is_none, unwrap_or, option_map, option_and_then, nat_eq}
 use Rattle.std.specs.Map.{lookup, remove_entry}
 use Rattle.std.specs.Option.{option_or}
 use Rattle.pe_arena.specs.declared.handle.DocRef.{DocRef}
@@ -11,7 +11,7 @@ use Rattle.pe_prompts.specs.declared.fault.AnswerFault.TheVariants.{Unknown, Set
 use Rattle.pe_prompts.specs.declared.fault.Asked.{Asked}
 use Rattle.pe_prompts.specs.declared.fault.Asked.TheVariants.{New, Joined}
 use Rattle.pe_prompts.specs.declared.given.Given.{Given}
-use Rattle.pe_prompts.specs.Pending.{Pending, prompt_in, is_first, number_for, joined, left_by}
+use Rattle.pe_prompts.specs.Pending.{Pending, prompt_in, is_first, number_for, joined}
 
 -- what is known of each number that was given, and the pending prompts of each page that has some
 pub record Queues : Type 0 where

@@ -3,7 +3,7 @@ ghost use Rattle.std.specs.Prelude.{◌≡◌, ◌↔◌, ◌<◌, ◌≤◌, �
 ghost use Rattle.std.specs.Map.{remove_entry};
 ghost use Rattle.indexmap.specs.IndexMap.{get};
 ghost use Rattle.pe_prompts.specs.Kept.{queue_of, settled};
-ghost use Rattle.pe_prompts.specs.Pending.{prompt_in, joined, left_in, all_left, left_by};
+ghost use Rattle.pe_prompts.specs.Pending.{prompt_in, number_for, joined, left_in, all_left, left_by};
 ghost use Rattle.pe_prompts.specs.Queues.{given_of, pending, pending_of, prompt_at, refusal, asked_of, at_page, HasAsked, HasSettled, IsRefused};
 
 use crate::fault::{AnswerFault, Asked, PromptFault};
@@ -51,6 +51,7 @@ fn push_in(
     prompt: Prompt,
 ) -> Result<(), AllocError>
     requires above { (k : ℕ) → IsSome (prompt_in k (queue_of pages.old prompt.page)) → k < number }
+    requires alone { number_for (prompt.feature, prompt.key) (queue_of pages.old prompt.page) ≡ None }
     requires room { length (queue_of pages.old prompt.page) < PENDING_LIMIT }
     ensures ok { OnOk result ((p : ℕ) → queue_of pages.new p ≡ at_page prompt.page (queue_of pages.old prompt.page ++ (number, prompt) ∷ []) (queue_of pages.old) p) }
     ensures err { OnErr result (pages.new.entries ≡ pages.old.entries) }
@@ -253,7 +254,8 @@ impl Prompts {
         key: Key,
         asker: DocRef,
     ) -> Result<Asked, PromptFault>
-        requires { (k : ℕ) → IsSome (given_of self.old k) → k < number }
+        requires above { (k : ℕ) → IsSome (given_of self.old k) → k < number }
+        requires alone { pending_of self.old page (feature, key) ≡ None }
         ensures told { IfOk result (λ asked. asked ≡ Asked.New number) }
         ensures kept { OnOk result (HasAsked self.old self.new (record { page = page; feature = feature; key = key; waiting = asker ∷ [] }) asker (Asked.New number)) }
         ensures full { (result ≡ Err PromptFault.TooMany) ↔ (length (pending self.old page) ≡ PENDING_LIMIT) }
@@ -278,6 +280,7 @@ impl Prompts {
         asker: DocRef,
     ) -> Result<(), AllocError>
         requires above { (k : ℕ) → IsSome (given_of self.old k) → k < number }
+        requires alone { pending_of self.old page (feature, key) ≡ None }
         requires room { length (pending self.old page) < PENDING_LIMIT }
         ensures ok { OnOk result (HasAsked self.old self.new (record { page = page; feature = feature; key = key; waiting = asker ∷ [] }) asker (Asked.New number)) }
         ensures err { OnErr result (self.new ≡ self.old) }

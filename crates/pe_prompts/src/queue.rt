@@ -1,16 +1,16 @@
 //! The pending prompts of a page.
-ghost use Rattle.std.specs.Prelude.{◌≡◌, ℕ, None, true, false, ◌++◌, ◌≤◌, ◌<◌, [], ◌∷◌, OnOk, OnErr, IfOk, IsSome, IsTrue, ◌↔◌, length, option_copied, option_map};
+ghost use Rattle.std.specs.Prelude.{◌≡◌, ℕ, nat_eq, None, Some, true, false, ◌++◌, ◌≤◌, ◌<◌, [], ◌∷◌, OnOk, OnErr, IfOk, IfErr, IsSome, IsTrue, ◌↔◌, length, option_copied};
 ghost use Rattle.std.specs.Map.{remove_entry};
-ghost use Rattle.std.specs.Prelude.{nat_eq};
-ghost use Rattle.pe_store.specs.Pairs.{is_same_pair, is_same_key};
-ghost use Rattle.pe_prompts.specs.Pending.{prompt_in, is_first, number_for, joined, left};
+ghost use Rattle.pe_base.specs.declared.limits.TheConstants.{EVENT_LIMIT};
+ghost use Rattle.pe_store.specs.Numbers.{IsChangedFor};
+ghost use Rattle.pe_prompts.specs.Pending.{prompt_in, pair_of, is_first, number_for, joined, left};
+ghost use Rattle.pe_prompts.specs.Indexed.{pairs_in};
 
 use crate::waiting::Waiting;
 use pe_arena::DocRef;
 use pe_base::{DocNo, FrameNo, PENDING_LIMIT, PromptNo};
 use pe_features::Feature;
-use pe_origin::same_origin;
-use pe_store::Key;
+use pe_store::{Key, PairNumbers, same_pairs_are_one};
 use std::alloc::{AllocError, Global};
 use std::collections::BTreeMap;
 use std::marker::Model;
@@ -26,24 +26,6 @@ pub struct Prompt {
     pub key: Key,
     /// The requests that wait for the answer.
     pub waiting: Waiting,
-}
-
-// Whether the two keys are one.
-fn same_key(a: &Key, b: &Key) -> bool
-    ensures { result ≡ is_same_key a.now b.now }
-{
-    match a {
-        Key::One(top) => match b {
-            Key::One(other_top) => same_origin(top, other_top),
-            Key::Pair(_, _) => false,
-        },
-        Key::Pair(top, own) => match b {
-            Key::One(_) => false,
-            Key::Pair(other_top, other_own) => {
-                same_origin(top, other_top) && same_origin(own, other_own)
-            }
-        },
-    }
 }
 
 impl Prompt {
@@ -66,33 +48,13 @@ impl Prompt {
             waiting,
         })
     }
-
-    // Whether the prompt asks for the feature under the key.
-    #[tactic(auto, unfolding(pe_store::specs::Pairs::is_same_pair))]
-    fn is_for(&self, feature: Feature, key: &Key) -> bool
-        ensures { result ≡ is_same_pair (self.now.feature, self.now.key) (feature, key.now) }
-    {
-        self.feature.index() == feature.index() && same_key(&self.key, key)
-    }
 }
 
-impl Prompt {
-    // The prompt's number, if it asks for the feature under the key.
-    fn number_if_for(&self, number: PromptNo, feature: Feature, key: &Key) -> Option<PromptNo>
-        ensures { result ≡ number_for (feature, key.now) ((number, self.now) ∷ []) }
-    {
-        if self.is_for(feature, key) {
-            Some(number)
-        } else {
-            None
-        }
-    }
-}
-
-/// The pending prompts of a page, by number.
+/// The pending prompts of a page: by their numbers, and the number of each pair that one of them asks for.
 #[derive(Drop)]
 pub(crate) struct Queue {
     prompts: BTreeMap<PromptNo, Prompt>,
+    pairs: PairNumbers,
 }
 
 impl Model for Queue {
@@ -104,7 +66,9 @@ impl Model for Queue {
 
     ghost view = { λ q. q.prompts.entries };
 
-    ghost invariant = { λ q. length q.prompts.entries ≤ PENDING_LIMIT };
+    ghost use Rattle.pe_prompts.specs.Indexed.{IsIndex};
+
+    ghost invariant = { λ q. (length q.prompts.entries ≤ PENDING_LIMIT) × IsIndex q.prompts.entries q.pairs };
 }
 
 // Puts a request behind those of the prompt. `AllocError` where memory wants.
@@ -127,6 +91,7 @@ fn drop_in(prompts: &mut BTreeMap<PromptNo, Prompt>, number: PromptNo, doc: DocN
     ensures kept { result ≡ false → prompts.new.entries ≡ left number doc prompts.old.entries }
     ensures emptied { result ≡ true → remove_entry (nat_eq number) prompts.new.entries ≡ left number doc prompts.old.entries }
     ensures len { length prompts.new.entries ≡ length prompts.old.entries }
+    ensures pairs { pairs_in prompts.new.entries ≡ pairs_in prompts.old.entries }
 {
     match prompts.get_mut(&number) {
         Some(prompt) => {
@@ -137,20 +102,74 @@ fn drop_in(prompts: &mut BTreeMap<PromptNo, Prompt>, number: PromptNo, doc: DocN
     }
 }
 
+// Puts a prompt behind the others. It is handed back where memory wants.
+fn put(
+    prompts: &mut BTreeMap<PromptNo, Prompt>,
+    number: PromptNo,
+    prompt: Prompt,
+) -> Result<(), Prompt>
+    requires { (k : ℕ) → IsSome (prompt_in k prompts.old.entries) → k < number }
+    ensures ok { OnOk result (prompts.new.entries ≡ prompts.old.entries ++ (number, prompt) ∷ []) }
+    ensures err { OnErr result (prompts.new.entries ≡ prompts.old.entries) }
+    ensures back { IfErr result (λ p. p ≡ prompt) }
+{
+    match prompts.insert(number, prompt) {
+        Ok(old) => {
+            let_go(old);
+            Ok(())
+        }
+        Err(refused) => {
+            let (_, prompt) = refused.value;
+            Err(prompt)
+        }
+    }
+}
+
+// Takes a prompt out.
+fn take(prompts: &mut BTreeMap<PromptNo, Prompt>, number: PromptNo) -> Option<Prompt>
+    ensures prompt { result ≡ prompt_in number prompts.old.entries }
+    ensures rest { prompts.new.entries ≡ remove_entry (nat_eq number) prompts.old.entries }
+    ensures gone { prompt_in number prompts.new.entries ≡ None }
+{
+    prompts.remove(&number)
+}
+
+// Notes the number under the prompt's pair. `AllocError` where memory wants.
+fn note(pairs: &mut PairNumbers, number: PromptNo, prompt: &Prompt) -> Result<(), AllocError>
+    ensures ok { OnOk result (IsChangedFor (pair_of prompt.now) (Some number) pairs.old pairs.new) }
+    ensures err { OnErr result (pairs.new ≡ pairs.old) }
+    ensures low { 1 ≤ number }
+    ensures high { number ≤ EVENT_LIMIT }
+{
+    let position = u64::from(number.get());
+    let key = prompt.key.copy()?;
+    pairs.put(prompt.feature, key, position)
+}
+
+// The prompt of a number that the index has.
+fn numbered(number: u64) -> PromptNo
+    requires low { 1 ≤ number }
+    requires high { number ≤ EVENT_LIMIT }
+    ensures { result ≡ number }
+{
+    PromptNo::of(number as u32)
+}
+
 // Lets a prompt go.
 fn let_go(_prompt: Option<Prompt>) {}
 
 impl Queue {
-    // No prompt.
+    /// No prompt. Nothing is allocated.
     pub fn new(alloc: Global) -> Queue
         ensures { result ≡ [] }
     {
         Queue {
             prompts: BTreeMap::new(alloc),
+            pairs: PairNumbers::new(alloc),
         }
     }
 
-    // How many there are.
+    /// How many there are.
     pub fn len(&self) -> u32
         ensures value { result ≡ length self.now }
         ensures small { result ≤ PENDING_LIMIT }
@@ -158,14 +177,14 @@ impl Queue {
         self.prompts.len() as u32
     }
 
-    // Whether there is none.
+    /// Whether there is none.
     pub fn is_empty(&self) -> bool
         ensures { IsTrue result ↔ (self.now ≡ []) }
     {
         self.prompts.is_empty()
     }
 
-    // Whether the prompt is the oldest.
+    /// Whether the prompt is the oldest.
     pub fn is_first(&self, number: PromptNo) -> bool
         ensures { result ≡ is_first number self.now }
     {
@@ -175,37 +194,42 @@ impl Queue {
         }
     }
 
-    // The prompt of the number.
+    /// The prompt of the number.
     pub fn get(&self, number: PromptNo) -> Option<&Prompt>
         ensures { option_copied result ≡ prompt_in number self.now }
     {
         self.prompts.get(&number)
     }
 
-    // The prompt of the pair. A page has at most 256.
+    /// The number of the prompt that asks for the feature under the key. One look-up.
     pub fn number_for(&self, feature: Feature, key: &Key) -> Option<PromptNo>
         ensures { result ≡ number_for (feature, key.now) self.now }
     {
-        for (number, prompt) in &self.prompts {
-            if let Some(found) = prompt.number_if_for(*number, feature, key) {
-                return Some(found);
-            }
+        match self.pairs.number(feature, key) {
+            Some(number) => Some(numbered(number)),
+            None => None,
         }
-        None
     }
 
-    // Puts a prompt behind the others. `AllocError` where memory wants.
+    /// Puts a prompt behind the others, of which none asks for the same. `AllocError` where memory wants.
     pub fn push(&mut self, number: PromptNo, prompt: Prompt) -> Result<(), AllocError>
         requires above { (k : ℕ) → IsSome (prompt_in k self.old) → k < number }
+        requires alone { number_for (prompt.feature, prompt.key) self.old ≡ None }
         requires room { length self.old < PENDING_LIMIT }
         ensures ok { OnOk result (self.new ≡ self.old ++ (number, prompt) ∷ []) }
         ensures err { OnErr result (self.new ≡ self.old) }
     {
-        self.prompts.insert(number, prompt)?;
-        Ok(())
+        same_pairs_are_one();
+        note(&mut self.pairs, number, &prompt)?;
+        let Err(prompt) = put(&mut self.prompts, number, prompt) else {
+            return Ok(());
+        };
+        self.pairs.remove(prompt.feature, &prompt.key);
+        let_go(Some(prompt));
+        Err(AllocError)
     }
 
-    // Puts a request behind those of the prompt. `AllocError` where memory wants.
+    /// Puts a request behind those of the prompt, if it is there. `AllocError` where memory wants.
     pub fn join(&mut self, number: PromptNo, asker: DocRef) -> Result<(), AllocError>
         ensures ok { OnOk result (self.new ≡ joined number asker self.old) }
         ensures err { OnErr result (self.new ≡ self.old) }
@@ -213,20 +237,25 @@ impl Queue {
         join_in(&mut self.prompts, number, asker)
     }
 
-    // Takes the prompt out.
+    /// Takes the prompt out, if it is there.
     pub fn remove(&mut self, number: PromptNo)
         ensures rest { self.new ≡ remove_entry (nat_eq number) self.old }
         ensures gone { prompt_in number self.new ≡ None }
     {
-        let_go(self.prompts.remove(&number));
+        same_pairs_are_one();
+        let Some(prompt) = take(&mut self.prompts, number) else {
+            return;
+        };
+        self.pairs.remove(prompt.feature, &prompt.key);
+        let_go(Some(prompt));
     }
 
-    // Drops the document's requests for the prompt, which is gone if no other waits.
+    /// Drops the document's requests for the prompt, which is gone if no other waits.
     pub fn drop_of(&mut self, number: PromptNo, doc: DocNo)
         ensures { self.new ≡ left number doc self.old }
     {
         if drop_in(&mut self.prompts, number, doc) {
-            let_go(self.prompts.remove(&number));
+            self.remove(number);
         }
     }
 }

@@ -1,5 +1,5 @@
 -- What stands in a group, by what lies in its range.
-use Rattle.std.proofs.Common.{◌≡◌, ℕ, ◌+◌, ◌≤◌, Bool, true, false, cond, ◌||◌, ◌&&◌, List, [], ◌∷◌, Option, Some, None, refl, sym, ap, ◌∙◌, arith, true≢false}
+use Rattle.std.proofs.Common.{◌≡◌, ℕ, ◌+◌, Bool, true, false, cond, ◌||◌, ◌&&◌, List, [], ◌∷◌, Some, None, refl, sym, ap, ◌∙◌, arith}
 use Rattle.std.specs.Prelude.{◌==◌, nat_le, filter}
 use Rattle.std.specs.List.{list_any}
 use Rattle.std.specs.Map.{lookup, values_of}
@@ -11,7 +11,7 @@ use Rattle.std.specs.declared.ops.Bound.TheVariants.{Included, Excluded}
 use Rattle.std.proofs.lemmas.Bool.Decides.{nat_tests, Decides-eqb}
 use Rattle.pe_status.specs.declared.place.Place.{Place}
 use Rattle.pe_status.specs.Places.{place_cmp, place, value_at, is_taken, is_from}
-use Rattle.pe_status.specs.Kept.{IsFirstOf, values_from}
+use Rattle.pe_status.specs.Kept.{values_from}
 use Rattle.pe_status.proofs.Walking.{at-test, filter-alike, range-test, between-group, between-none}
 
 -- what is not in the group from its first number is not at a place of it

@@ -1,13 +1,13 @@
 -- The structures say the same of the statuses after each change.
-use Rattle.std.proofs.Common.{◌≡◌, ℕ, ◌+◌, ◌-◌, ◌<◌, ◌≤◌, Bool, true, false, cond, not, ◌||◌, ◌&&◌, List, [], ◌∷◌, ◌++◌, length, map, Option, Some, None, refl, sym, ap, subst, ◌∙◌, arith, true≢false, inl, inr}
-use Rattle.std.specs.Prelude.{◌==◌, filter, option_and_then, is_some, is_none, unwrap_or}
+use Rattle.std.proofs.Common.{◌≡◌, ℕ, ◌+◌, ◌-◌, ◌<◌, ◌≤◌, Bool, true, false, cond, not, ◌||◌, ◌&&◌, List, [], ◌∷◌, ◌++◌, Option, Some, None, refl, sym, ap, subst, ◌∙◌, arith, true≢false}
+use Rattle.std.specs.Prelude.{◌==◌, filter, option_and_then, unwrap_or}
 use Rattle.std.specs.Bool.{Decides}
 use Rattle.std.proofs.lemmas.Bool.Decides.{nat_tests, Decides-eqb}
 use Rattle.pe_base.specs.declared.limits.TheConstants.{STATUS_LIMIT, EVENT_LIMIT}
 use Rattle.pe_store.specs.Pairs.{Pair, is_same_pair}
 use Rattle.pe_status.specs.declared.giving.Given.{Given}
 use Rattle.pe_status.specs.declared.registered.Registered.{Registered}
-use Rattle.pe_status.specs.Registry.{pair_of, status_of, count_of_page, was_given, without, without_document, AreBelow, AreAbove, AreRising}
+use Rattle.pe_status.specs.Registry.{pair_of, status_of, count_of_page, was_given, without, without_document, AreBelow, AreRising}
 use Rattle.pe_status.specs.Kept.{numbers, pair_given, live_rows, is_of_document, IsPlaced, IsKnown, IsKept, IsOneOf}
 use Rattle.std.specs.List.{cons_option}
 use Rattle.pe_status.proofs.Listed.{nos, kept, self-test, later-test, found-no, found-filter, found-push, rising-filter, same-statuses}

@@ -10,3 +10,4 @@ pub mod Numbering
 pub mod Ending
 pub mod Seen
 pub mod Going
+pub mod LookUps

@@ -1,6 +1,5 @@
 -- What a change leaves of the numbers of pairs.
-use Rattle.std.proofs.Common.{◌≡◌, ℕ, Bool, true, false, cond, List, Option, Some, None, is_some, unwrap_or, refl, sym, ap, ◌∙◌, true≢false}
-use Rattle.std.specs.Bool.{Decides}
+use Rattle.std.proofs.Common.{◌≡◌, ℕ, Bool, true, false, cond, List, Option, Some, None, sym, ap, ◌∙◌}
 use Rattle.std.specs.BTreeMap.{BTreeMap}
 use Rattle.pe_features.specs.declared.feature.Feature.{Feature}
 use Rattle.pe_store.specs.declared.key.Key.{Key}
@@ -32,23 +31,3 @@ freed r group rows old new none h = record {
     by_test : (b : Bool) (g : ℕ) (o : Option ℕ) → cond b None o ≡ Some g → o ≡ Some g
     by_test true g o e = absurd cc
     by_test false g o e = e
-
--- a number that was given is taken away again, where there was none before
-pub restored : (same : (x y : Pair) → Decides (is_same_pair x y) (x ≡ y)) (pair : Pair) (first group : ℕ) (had : Bool) (old mid new : List KeyNumbers) → had ≡ is_some (number_of old pair)
-    → group ≡ unwrap_or (number_of old pair) first → ((x : Pair) → number_of mid x ≡ cond (is_same_pair pair x) (Some group) (number_of old x))
-    → (had ≡ true → new ≡ mid) → (had ≡ false → (x : Pair) → number_of new x ≡ cond (is_same_pair pair x) None (number_of mid x)) → (x : Pair) → number_of new x ≡ number_of old x
-restored same pair first group had old mid new is value given kept taken x = by_number (number_of old pair) refl is value
-  where
-    own : (o : Option ℕ) → number_of old pair ≡ o → (b : Bool) → is_same_pair pair x ≡ b → cond b o (number_of old x) ≡ number_of old x
-    own o e true f = sym e ∙ ap (number_of old) ((same pair x).0 f)
-    own o e false f = refl
-
-    twice : (b : Bool) (o : Option ℕ) → cond b None (cond b (Some group) o) ≡ cond b None o
-    twice true o = refl
-    twice false o = refl
-
-    by_number : (o : Option ℕ) → number_of old pair ≡ o → had ≡ is_some o → group ≡ unwrap_or o first → number_of new x ≡ number_of old x
-    by_number None e h v =
-        taken h x ∙ ap (cond (is_same_pair pair x) None) (given x) ∙ twice (is_same_pair pair x) (number_of old x) ∙ own None e (is_same_pair pair x) refl
-    by_number (Some p) e h v =
-        ap (λ (ns : List KeyNumbers). number_of ns x) (kept h) ∙ given x ∙ ap (λ (g : ℕ). cond (is_same_pair pair x) (Some g) (number_of old x)) v ∙ own (Some p) e (is_same_pair pair x) refl

@@ -1,5 +1,5 @@
 -- What a change at a place leaves at each place.
-use Rattle.std.proofs.Common.{◌≡◌, ℕ, Bool, true, false, cond, ◌||◌, ◌&&◌, List, [], Option, None, refl, sym, ap, ◌∙◌, arith}
+use Rattle.std.proofs.Common.{◌≡◌, ℕ, Bool, true, false, cond, ◌||◌, ◌&&◌, [], Option, None, refl, ap, ◌∙◌, arith}
 use Rattle.std.specs.Prelude.{◌==◌}
 use Rattle.std.specs.Ordering.{is_eq}
 use Rattle.std.specs.List.{list_any}
@@ -36,10 +36,6 @@ value-changed p w old new h g n = h (place g n) ∙ ap (λ (b : Bool). cond b w 
 pub value-unchanged : {X : Type 0} (old new : BTreeMap Place X) → new.entries ≡ old.entries → (g n : ℕ) → value_at new g n ≡ value_at old g n
 unfolding value_at
 value-unchanged old new h g n = ap (lookup (is_at (place_cmp (place g n)))) h
-
-pub taken-unchanged : (old new : BTreeSet Place) → new.keys ≡ old.keys → (g n : ℕ) → is_taken new g n ≡ is_taken old g n
-unfolding is_taken
-taken-unchanged old new h g n = ap (list_any (is_at (place_cmp (place g n)))) h
 
 pub value-empty : {X : Type 0} (m : BTreeMap Place X) → m.entries ≡ [] → (g n : ℕ) → value_at m g n ≡ None
 unfolding value_at

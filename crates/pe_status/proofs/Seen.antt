@@ -1,5 +1,5 @@
 -- What is seen of the structures.
-use Rattle.std.proofs.Common.{◌≡◌, ℕ, ◌+◌, ◌<◌, ◌≤◌, Bool, true, false, cond, not, List, [], ◌∷◌, ◌++◌, map, Option, Some, None, is_some, is_none, refl, sym, ap, subst, ◌∙◌, arith, true≢false}
+use Rattle.std.proofs.Common.{◌≡◌, ℕ, ◌+◌, ◌<◌, ◌≤◌, Bool, true, false, cond, List, [], ◌∷◌, ◌++◌, Option, Some, None, is_some, is_none, refl, sym, ap, subst, ◌∙◌, arith, true≢false}
 use Rattle.std.specs.Prelude.{option_and_then, IfSome, ◌^◌}
 use Rattle.pe_base.specs.declared.limits.TheConstants.{STATUS_LIMIT, EVENT_LIMIT}
 use Rattle.pe_counts.specs.Counts.{count_of}
@@ -9,13 +9,12 @@ use Rattle.pe_store.specs.Pairs.{Pair, is_same_pair}
 use Rattle.pe_status.specs.declared.giving.Given.{Given}
 use Rattle.pe_status.specs.declared.index.Index.{Index}
 use Rattle.pe_status.specs.declared.registered.Registered.{Registered}
-use Rattle.pe_status.specs.declared.registered.ReleaseFault.{ReleaseFault}
 use Rattle.pe_status.specs.declared.registered.ReleaseFault.TheVariants.{Unknown, Closed}
-use Rattle.pe_status.specs.Registry.{Registry, pair_of, AreBelow, status_of, was_given, release_fault, count_of_page, without, without_document, IsInOrder, AreRising}
+use Rattle.pe_status.specs.Registry.{Registry, pair_of, AreBelow, status_of, release_fault, count_of_page, without, IsInOrder, AreRising}
 use Rattle.pe_status.specs.Places.{value_at, is_taken}
-use Rattle.pe_status.specs.Kept.{numbers, pair_given, live_rows, IsIndex, IsKept, IsOneOf, IsFirstOf, IsAlike, IsWith, IsWithout, number_for, is_of_document}
+use Rattle.pe_status.specs.Kept.{numbers, pair_given, live_rows, IsIndex, IsOneOf, IsFirstOf, IsAlike, IsWith, IsWithout, number_for, is_of_document}
 use Rattle.pe_status.proofs.Listed.{nos}
-use Rattle.pe_status.proofs.Live.{row_of, was-given, live-same, given-none}
+use Rattle.pe_status.proofs.Live.{was-given, live-same, given-none}
 use Rattle.pe_status.proofs.Keeping.{rising, found, without-none, kept-alike, kept-with, kept-without, live-with, live-without}
 
 -- what contracts see
@@ -124,9 +123,6 @@ row-owns gs x k g n = by_row (value_at x.rows g n) refl
 
 pub alike-index : (gs : List Given) (x y : Index) → IsIndex gs x → IsAlike x y → IsIndex gs y
 alike-index gs x y k a = kept-alike a.left.rows a.pairs a.left.owned a.left.pages k
-
-pub alike-seen : (gs : List Given) (x y : Index) → IsAlike x y → seen gs y ≡ seen gs x
-alike-seen gs x y a = ap (λ (rs : List Registered). record { live = rs; given = numbers gs }) (live-same (value_at x.rows) (value_at y.rows) a.left.rows gs)
 
 module _ (same : (p q : Pair) → Decides (is_same_pair p q) (p ≡ q)) (gs : List Given) (x y : Index) (k : IsIndex gs x) where
   -- a status ends

@@ -1,6 +1,6 @@
 -- What a walk over the statuses of a pair gives.
-use Rattle.std.proofs.Common.{◌≡◌, ℕ, ◌+◌, ◌<◌, ◌≤◌, Bool, true, false, cond, not, ◌&&◌, List, [], ◌∷◌, map, Option, Some, None, refl, sym, ap, ◌∙◌, arith, rules, true≢false, Bor, MatchOption}
-use Rattle.std.specs.Prelude.{◌==◌, nat_le, nat_lt, filter, find, option_and_then, All}
+use Rattle.std.proofs.Common.{◌≡◌, ℕ, ◌+◌, ◌<◌, Bool, true, false, cond, ◌&&◌, List, [], ◌∷◌, Option, Some, None, refl, sym, ap, ◌∙◌, arith, rules, true≢false, Bor, MatchOption}
+use Rattle.std.specs.Prelude.{◌==◌, nat_le, filter, find, option_and_then}
 use Rattle.std.specs.Bool.{Decides}
 use Rattle.std.specs.Option.{option_copied}
 use Rattle.std.specs.Cmp.{IsTotalOrder}
@@ -23,7 +23,6 @@ use Rattle.pe_status.specs.Registry.{pair_of, status_of, is_above, is_later_unde
 use Rattle.pe_status.specs.Places.{place_cmp, place, value_at, is_from}
 use Rattle.pe_status.specs.Kept.{pair_given, live_rows, values_from, first_no, IsKept}
 use Rattle.pe_status.proofs.Listed.{nos, kept, found-no, found-filter, rising-filter, same-statuses}
-use Rattle.pe_status.proofs.Live.{row_of}
 use Rattle.pe_status.proofs.Keeping.{rising, found, found-at}
 
 pub at-test : (g n : ℕ) (q : Place) → is_eq (place_cmp (place g n) q) ≡ (q.group == g && q.no == n)

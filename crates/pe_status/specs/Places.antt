@@ -1,5 +1,5 @@
 -- The places of statuses in groups, and what stands there.
-use Rattle.std.specs.Prelude.{ℕ, List, map, Bool, Option, unwrap_or, ◌==◌, ◌&&◌, nat_le}
+use Rattle.std.specs.Prelude.{ℕ, Bool, Option, ◌==◌, ◌&&◌, nat_le}
 use Rattle.std.specs.declared.cmp.Ordering.{Ordering}
 use Rattle.std.specs.BTreeMap.{BTreeMap, get}
 use Rattle.std.specs.BTreeSet.{BTreeSet, contains}

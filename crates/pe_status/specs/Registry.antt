@@ -61,6 +61,11 @@ without number rs = filter (λ r. not (r.no == number)) rs
 unfoldable pub without_document : ℕ → List Registered → List Registered
 without_document doc rs = filter (λ r. not (r.doc.doc == doc)) rs
 
+-- the status, unless it is one of the document
+abbrev pub unless_of : ℕ → Option Registered → Option Registered
+unless_of doc None = None
+unless_of doc (Some r) = if r.doc.doc == doc then None else Some r
+
 -- each number is below this one
 abbrev pub AreBelow : ℕ → List ℕ → Type 0
 AreBelow number [] = ⊤

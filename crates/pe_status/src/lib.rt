@@ -12,3 +12,6 @@ mod walk;
 pub use registered::{Registered, ReleaseFault, StatusFault};
 pub use statuses::Statuses;
 pub use walk::Walk;
+
+#[cfg(test)]
+mod tests;

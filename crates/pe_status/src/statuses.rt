@@ -1,8 +1,8 @@
 //! The permission statuses.
-ghost use Rattle.std.specs.Prelude.{◌≡◌, ◌↔◌, ◌≤◌, ◌+◌, [], ◌∷◌, ◌++◌, IfOk, IfSome, OnOk, OnErr, OnSome, Some, Err, option_copied};
+ghost use Rattle.std.specs.Prelude.{◌≡◌, ◌↔◌, ◌≤◌, ◌<◌, ◌+◌, ◌==◌, ℕ, cond, [], ◌∷◌, ◌++◌, IfOk, IfSome, OnOk, OnErr, OnSome, None, Some, Err, option_copied};
 ghost use Rattle.std.specs.Result.{result_err};
 ghost use Rattle.pe_base.specs.declared.limits.TheConstants.{STATUS_LIMIT};
-ghost use Rattle.pe_status.specs.Registry.{status_of, count_of_page, release_fault, later_under, next_under, without, without_document, AreBelow, IsInOrder};
+ghost use Rattle.pe_status.specs.Registry.{status_of, count_of_page, release_fault, later_under, next_under, without, without_document, unless_of, AreBelow, IsInOrder};
 ghost use Rattle.pe_status.specs.Kept.{IsOneOf};
 
 use crate::giving::{Given, pair_given};
@@ -91,6 +91,9 @@ impl Statuses {
         requires { AreBelow no self.old.given }
         ensures live { OnOk result (self.new.live ≡ self.old.live ++ record { no = no; page = page; doc = doc; feature = feature; key = key } ∷ []) }
         ensures given { OnOk result (self.new.given ≡ self.old.given ++ no ∷ []) }
+        ensures found { OnOk result ((n : ℕ) → status_of self.new.live n ≡ cond (no == n) (Some (record { no = no; page = page; doc = doc; feature = feature; key = key })) (status_of self.old.live n)) }
+        ensures count { OnOk result ((p : ℕ) → count_of_page p self.new.live ≡ cond (page == p) (count_of_page p self.old.live + 1) (count_of_page p self.old.live)) }
+        ensures next { OnOk result ((k : ℕ) → no < k → AreBelow k self.new.given) }
         ensures too_many { (result ≡ Err StatusFault.TooMany) ↔ (count_of_page page self.old.live ≡ STATUS_LIMIT) }
         ensures err { OnErr result (self.new ≡ self.old) }
     {
@@ -120,6 +123,8 @@ impl Statuses {
     pub fn release(&mut self, no: StatusNo) -> Result<(), ReleaseFault>
         ensures live { self.new.live ≡ without no self.old.live }
         ensures given { self.new.given ≡ self.old.given }
+        ensures found { (n : ℕ) → status_of self.new.live n ≡ cond (no == n) None (status_of self.old.live n) }
+        ensures count { IfSome (status_of self.old.live no) (λ r. (p : ℕ) → count_of_page p self.old.live ≡ cond (r.page == p) (count_of_page p self.new.live + 1) (count_of_page p self.new.live)) }
         ensures fault { result_err result ≡ release_fault self.old no }
         ensures err { OnErr result (self.new ≡ self.old) }
     {
@@ -133,6 +138,8 @@ impl Statuses {
     fn end(&mut self, no: u32) -> Option<ReleaseFault>
         ensures live { self.new.live ≡ without no self.old.live }
         ensures given { self.new.given ≡ self.old.given }
+        ensures found { (n : ℕ) → status_of self.new.live n ≡ cond (no == n) None (status_of self.old.live n) }
+        ensures count { IfSome (status_of self.old.live no) (λ r. (p : ℕ) → count_of_page p self.old.live ≡ cond (r.page == p) (count_of_page p self.new.live + 1) (count_of_page p self.new.live)) }
         ensures fault { result ≡ release_fault self.old no }
         ensures same { OnSome result (self.new ≡ self.old) }
     {
@@ -159,6 +166,7 @@ impl Statuses {
     pub fn gone(&mut self, doc: DocNo)
         ensures live { self.new.live ≡ without_document doc self.old.live }
         ensures given { self.new.given ≡ self.old.given }
+        ensures found { (n : ℕ) → status_of self.new.live n ≡ unless_of doc (status_of self.old.live n) }
     {
         while let Some(no) = self.first_of(doc) {
             let _ = self.end(no);

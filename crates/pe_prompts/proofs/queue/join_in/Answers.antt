@@ -1,7 +1,6 @@
-use Rattle.std.proofs.Common.{◌≡◌, ◌++◌, [], ◌∷◌, Some, None, ap, sym, subst, ◌∙◌, nat_eq}
+use Rattle.std.proofs.Common.{ap, sym, ◌∙◌, nat_eq}
 use Rattle.std.specs.Map.{set_value, lookup}
 use Rattle.std.proofs.lemmas.Map.Steps.{set_value_same}
-use Rattle.pe_prompts.specs.Pending.{prompt_in, with_request, joined}
 use Rattle.pe_prompts.proofs.Items.{on_ok, on_err}
 use Rattle.pe_prompts.proofs.Pending.{set_value-joined, joined-absent, same_test}
 use Rattle.pe_prompts.proofs.queue.join_in.Goals as goal

@@ -1,6 +1,6 @@
-use Rattle.std.proofs.Common.{◌≡◌, ◌+◌, [], ◌∷◌, get_or, length, drop, suc, ap, sym, subst, ◌∙◌, arith, add-one}
+use Rattle.std.proofs.Common.{◌+◌, get_or, length, drop, ap, sym, ◌∙◌, arith, add-one}
 use Rattle.std.proofs.Math.Seq.{drop-cons}
-use Rattle.pe_prompts.specs.Requests.{somes, cleared, cleared_count, all_cleared}
+use Rattle.pe_prompts.specs.Requests.{somes, cleared, all_cleared}
 use Rattle.pe_prompts.proofs.Requests.{count-cleared}
 use Rattle.pe_prompts.proofs.waiting.clear_all.Goals as goal
 

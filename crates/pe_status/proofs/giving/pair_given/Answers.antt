@@ -1,4 +1,4 @@
-use Rattle.std.proofs.Common.{rules, refl}
+use Rattle.std.proofs.Common.{rules}
 use Rattle.std.proofs.lemmas.Fn.{always_returns_same}
 use Rattle.pe_status.proofs.Searching.{searched-found, searched-none}
 use Rattle.pe_status.proofs.giving.pair_given.Goals as goal

@@ -1,4 +1,4 @@
-use Rattle.std.proofs.Common.{◌≡◌, ◌∙◌, sym, ap, subst, Some, None, is_some, Option, true≢false, ◌<◌, ◌+◌, ◌^◌}
+use Rattle.std.proofs.Common.{◌≡◌, ◌∙◌, sym, ap, subst, Some, is_some, Option, true≢false, ◌<◌, ◌+◌, ◌^◌}
 use Rattle.std.specs.Prelude.{IfSome}
 use Rattle.pe_status.specs.declared.index.Index.{Index}
 use Rattle.pe_status.specs.declared.registered.Registered.{Registered}

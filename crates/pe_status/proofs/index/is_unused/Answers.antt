@@ -1,5 +1,5 @@
 use Rattle.pe_status.proofs.Grouped.{no-row}
-use Rattle.std.proofs.Common.{◌≡◌, ◌∙◌, ap, sym, true, false, not, Bool, is_some, Option, Some, None, true≢false}
+use Rattle.std.proofs.Common.{◌≡◌, ◌∙◌, ap, true, not, Bool, is_some, Option, Some, None, true≢false}
 use Rattle.std.specs.Option.{MatchOption}
 use Rattle.pe_status.proofs.index.is_unused.Goals as goal
 

@@ -1,4 +1,4 @@
-use Rattle.std.proofs.Common.{◌∙◌, ap, sym, Some, None, ℕ, Option}
+use Rattle.std.proofs.Common.{◌∙◌, ap, sym, ℕ, Option}
 use Rattle.std.specs.declared.ops.Range.{Range}
 use Rattle.pe_status.specs.declared.place.Place.{Place}
 use Rattle.pe_status.specs.Kept.{values_from, first_no}

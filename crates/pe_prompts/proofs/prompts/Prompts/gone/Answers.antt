@@ -1,4 +1,4 @@
-use Rattle.std.proofs.Common.{◌≡◌, ℕ, List, ap, subst, sym, ◌∙◌, nat_eq}
+use Rattle.std.proofs.Common.{◌≡◌, ap, subst, sym, ◌∙◌, nat_eq}
 use Rattle.pe_prompts.specs.Lists.{listed, Each}
 use Rattle.pe_prompts.specs.Pending.{all_left, left_by}
 use Rattle.pe_prompts.specs.Queues.{pending}

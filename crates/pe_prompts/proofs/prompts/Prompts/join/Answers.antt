@@ -1,4 +1,4 @@
-use Rattle.std.proofs.Common.{◌≡◌, ℕ, List, refl, ap, subst, sym, ◌∙◌, nat_eq, unwrap_or, []}
+use Rattle.std.proofs.Common.{refl, ap, subst, nat_eq, unwrap_or, []}
 use Rattle.std.specs.Map.{lookup}
 use Rattle.pe_prompts.specs.Lists.{listed, IsIn}
 use Rattle.pe_prompts.specs.Kept.{queue_of}

@@ -1,8 +1,7 @@
-use Rattle.std.proofs.Common.{◌≡◌, ℕ, ◌<◌, List, [], ◌∷◌, ◌++◌, Some, false, cond, IsSome, refl, ap, subst, sym, ◌∙◌, nat_eq, unwrap_or}
+use Rattle.std.proofs.Common.{◌≡◌, [], ◌∷◌, ◌++◌, Some, false, cond, IsSome, refl, ap, subst, ◌∙◌, nat_eq, unwrap_or}
 use Rattle.std.specs.Map.{lookup}
 use Rattle.indexmap.specs.IndexMap.{get}
 use Rattle.pe_prompts.specs.Lists.{listed, IsIn}
-use Rattle.pe_prompts.specs.Pending.{prompt_in}
 use Rattle.pe_prompts.specs.Queues.{given_of, at_page}
 use Rattle.pe_prompts.specs.Kept.{queue_of}
 use Rattle.pe_prompts.proofs.Items.{put-stays, put-stands, put-kept}

@@ -1,5 +1,5 @@
-use Rattle.std.proofs.Common.{◌≡◌, Some, true, false, refl, ap, subst, sym, ◌∙◌, nat_eq, option_map}
-use Rattle.std.specs.Map.{lookup, remove_entry}
+use Rattle.std.proofs.Common.{ap, sym, ◌∙◌, nat_eq, option_map}
+use Rattle.std.specs.Map.{remove_entry}
 use Rattle.pe_prompts.specs.Lists.{listed}
 use Rattle.pe_prompts.specs.Queues.{given_of, pending}
 use Rattle.pe_prompts.specs.Kept.{queue_of, settled}

@@ -1,4 +1,4 @@
-use Rattle.std.proofs.Common.{◌≡◌, Some, false, [], sym, ap, ◌∙◌, nat_eq, unwrap_or}
+use Rattle.std.proofs.Common.{Some, false, [], sym, ap, ◌∙◌, unwrap_or}
 use Rattle.pe_prompts.specs.Lists.{listed}
 use Rattle.pe_prompts.specs.Pending.{prompt_in}
 use Rattle.pe_prompts.specs.Queues.{given_of}

@@ -1,4 +1,4 @@
-use Rattle.std.proofs.Common.{◌≡◌, ◌+◌, ◌++◌, ap, sym, ◌∙◌, arith, take, suc, length, add-one}
+use Rattle.std.proofs.Common.{◌++◌, ap, sym, ◌∙◌, take, add-one}
 use Rattle.std.specs.Prelude.{option_to_list}
 use Rattle.pe_prompts.specs.Requests.{somes}
 use Rattle.pe_prompts.proofs.Requests.{somes-take}

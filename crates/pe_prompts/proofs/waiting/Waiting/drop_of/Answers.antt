@@ -1,7 +1,6 @@
-use Rattle.std.proofs.Common.{◌≡◌, ℕ, Bool, true, false, Some, refl, ap, subst, sym, ◌∙◌, nat_eq, slice_get}
-use Rattle.pe_arena.specs.declared.handle.DocRef.{DocRef}
+use Rattle.std.proofs.Common.{◌≡◌, true, false, Some, refl, ap, subst, sym, ◌∙◌, nat_eq, slice_get}
 use Rattle.pe_prompts.specs.Lists.{listed, IsIn}
-use Rattle.pe_prompts.specs.Requests.{somes, is_of, without, all_cleared, AreListed}
+use Rattle.pe_prompts.specs.Requests.{somes, is_of, without, AreListed}
 use Rattle.pe_prompts.proofs.Items.{same_number}
 use Rattle.pe_prompts.proofs.Requests.{somes-all_cleared, get-all_cleared, none-all_cleared}
 use Rattle.pe_prompts.proofs.waiting.Waiting.drop_of.Goals as goal

@@ -1,6 +1,6 @@
 use Rattle.std.proofs.Common.{◌≡◌, ◌++◌, [], ◌∷◌, Some, length, length-append, ap, sym, subst, ◌∙◌, arith}
 use Rattle.pe_prompts.specs.Lists.{listed, IsIn}
-use Rattle.pe_prompts.specs.Requests.{somes, is_of, AreListed}
+use Rattle.pe_prompts.specs.Requests.{somes, AreListed}
 use Rattle.pe_prompts.proofs.Items.{same_number, put-stays, put-stands}
 use Rattle.pe_prompts.proofs.Requests.{somes-push, length-somes, AreListed-push}
 use Rattle.pe_prompts.proofs.waiting.Waiting.push.Goals as goal

@@ -1,10 +1,9 @@
-use Rattle.std.proofs.Common.{◌≡◌, ◌∙◌, sym, ap, subst, ℕ, List, Option, Some, None, ◌≤◌, ◌<◌, arith, is_some, ◌++◌, ◌∷◌, []}
+use Rattle.std.proofs.Common.{◌∙◌, sym, ap, List}
 use Rattle.pe_status.specs.declared.giving.Given.{Given}
-use Rattle.pe_status.specs.declared.registered.Registered.{Registered}
-use Rattle.pe_status.specs.Registry.{Registry, AreBelow, later_under}
-use Rattle.pe_status.specs.Kept.{pair_given, numbers, values_from, first_no}
+use Rattle.pe_status.specs.Kept.{live_rows, pair_given}
 use Rattle.pe_status.specs.Places.{value_at}
 use Rattle.pe_status.proofs.Seen.{true-fault, false-fault, unknown-fault, none-ends, status-none, row-group-fits, row-owns, ended-index, ended-live}
+use Rattle.pe_status.proofs.LookUps.{ended-found, ended-count}
 use Rattle.pe_status.proofs.statuses.Statuses.end.Goals.{then-end, else-end}
 use Rattle.pe_status.proofs.statuses.Statuses.end.Goals as goal
 
@@ -34,3 +33,19 @@ returns-clause-fault c = elim c.if-end.branch [
   | then-end w ↦ w.result-is ∙ true-fault c.self.inside.given.items c.self.inside.index c.self.invariant c.args.self.now c.self.view_is c.args.no c.in-Some.group (sym (c.pair_given.ensures ∙ ap (λ (gs : List Given). pair_given gs c.args.no) c.deref.ensures.value) ∙ c.in-Some.is) (sym c.end.ensures.found ∙ w.if-end.true)
   | else-end w ↦ w.result-is ∙ false-fault c.self.inside.given.items c.self.inside.index c.self.invariant c.args.self.now c.self.view_is c.args.no c.in-Some.group (sym (c.pair_given.ensures ∙ ap (λ (gs : List Given). pair_given gs c.args.no) c.deref.ensures.value) ∙ c.in-Some.is) (sym c.end.ensures.found ∙ w.if-end.false)
 ]
+
+pub returns-in_default-clause-found : goal.returns-in_default-clause-found
+returns-in_default-clause-found c =
+    ended-found c.self.inside.given.items c.self.inside.index c.self.invariant c.args.self.now c.self.view_is c.args.no c.args.self.now.live (returns-in_default-clause-live c)
+
+pub returns-in_default-clause-count : goal.returns-in_default-clause-count
+returns-in_default-clause-count c =
+    ended-count c.self.inside.given.items c.self.inside.index c.self.invariant c.args.self.now c.self.view_is c.args.no c.args.self.now.live (returns-in_default-clause-live c)
+
+pub returns-clause-found : goal.returns-clause-found
+returns-clause-found c =
+    ended-found c.self.inside.given.items c.self.inside.index c.self.invariant c.args.self.now c.self.view_is c.args.no (live_rows (value_at c.end.new.index.rows) c.self.inside.given.items) (returns-clause-live c)
+
+pub returns-clause-count : goal.returns-clause-count
+returns-clause-count c =
+    ended-count c.self.inside.given.items c.self.inside.index c.self.invariant c.args.self.now c.self.view_is c.args.no (live_rows (value_at c.end.new.index.rows) c.self.inside.given.items) (returns-clause-live c)

@@ -1,8 +1,6 @@
-use Rattle.std.proofs.Common.{◌≡◌, ◌∙◌, sym, ap, subst, ℕ, List, Option, Some, None, ◌≤◌, ◌<◌, arith, is_some, ◌++◌, ◌∷◌, []}
+use Rattle.std.proofs.Common.{◌∙◌, sym, ap, ℕ, List, Some}
 use Rattle.pe_status.specs.declared.giving.Given.{Given}
-use Rattle.pe_status.specs.declared.registered.Registered.{Registered}
-use Rattle.pe_status.specs.Registry.{Registry, AreBelow, later_under}
-use Rattle.pe_status.specs.Kept.{pair_given, numbers, values_from, first_no}
+use Rattle.pe_status.specs.Kept.{pair_given}
 use Rattle.pe_status.specs.Places.{value_at}
 use Rattle.std.specs.Option.{option_copied}
 use Rattle.pe_status.proofs.Seen.{order, unknown-fault, closed-fault, no-fault, status-found}

@@ -1,9 +1,6 @@
-use Rattle.std.proofs.Common.{◌≡◌, ◌∙◌, sym, ap, subst, ℕ, List, Option, Some, None, ◌≤◌, ◌<◌, arith, is_some, ◌++◌, ◌∷◌, []}
-use Rattle.pe_status.specs.declared.giving.Given.{Given}
-use Rattle.pe_status.specs.declared.registered.Registered.{Registered}
-use Rattle.pe_status.specs.Registry.{Registry, AreBelow, later_under}
-use Rattle.pe_status.specs.Kept.{pair_given, numbers, values_from, first_no}
-use Rattle.pe_status.specs.Places.{value_at}
+use Rattle.std.proofs.Common.{◌∙◌, ap, ℕ, Option}
+use Rattle.pe_status.specs.Registry.{Registry, later_under}
+use Rattle.pe_status.specs.Kept.{values_from, first_no}
 use Rattle.pe_store.specs.Numbers.{number_of}
 use Rattle.pe_status.specs.Places.{is_taken}
 use Rattle.pe_counts.specs.Counts.{count_of}
