@@ -44,7 +44,7 @@ abbrev pub with_stamp : Stamp → Row → Row
 with_stamp s x = record x { stamp = s }
 
 stamp-settled : (T : RepliedHistory) (x : Row) (s : Stamp) → IsSettled T x → IsSettled T (with_stamp s x)
-stamp-settled T x s is = record { origin = is.origin; sandboxed = is.sandboxed; policy = is.policy }
+stamp-settled T x s is = record { origin = is.origin; sandboxed = is.sandboxed; secure = is.secure; single = is.single; pair = is.pair; policy = is.policy }
 
 same-tests : (a b c x y z : Bool) → a ≡ x → b ≡ y → c ≡ z → (a || b && c) ≡ (x || y && z)
 same-tests a b c x y z p q r = rw (p, q, r) refl

@@ -143,7 +143,7 @@ module _ (laws : HistoryLaws) where
       settled item = settled-child laws (step item) T m number place a y.doc x (made-here item) embedder within of-parent.1.row.settled number-is named given row
 
       settled-with : (item : StepAnswer) → IsSettled (step item ∷ T) (record x { attributes = a })
-      settled-with item = record { origin = (settled item).origin; sandboxed = (settled item).sandboxed; policy = (settled item).policy }
+      settled-with item = record { origin = (settled item).origin; sandboxed = (settled item).sandboxed; secure = (settled item).secure; single = (settled item).single; pair = (settled item).pair; policy = (settled item).policy }
 
       says : answer.FrameMade number number x.origin ≡ answer_of e.duration T now v
       says =

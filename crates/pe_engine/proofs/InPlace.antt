@@ -33,10 +33,10 @@ use Rattle.pe_engine.proofs.Look.{node-at, page-at, page-of}
 
 -- a row whose second stamp, or whose attributes, are other ones is settled as before
 second-settled : (T : RepliedHistory) (x : Row) (s : Stamp) → IsSettled T x → IsSettled T (record x { second = s })
-second-settled T x s is = record { origin = is.origin; sandboxed = is.sandboxed; policy = is.policy }
+second-settled T x s is = record { origin = is.origin; sandboxed = is.sandboxed; secure = is.secure; single = is.single; pair = is.pair; policy = is.policy }
 
 attributes-settled : (T : RepliedHistory) (x y : Row) → IsSettled T x → IsSettled T (record x { attributes = y.attributes })
-attributes-settled T x y is = record { origin = is.origin; sandboxed = is.sandboxed; policy = is.policy }
+attributes-settled T x y is = record { origin = is.origin; sandboxed = is.sandboxed; secure = is.secure; single = is.single; pair = is.pair; policy = is.policy }
 
 turned : (a b : ℕ) → (a == b) ≡ (b == a)
 turned a b = grind (arith, nat_tests)

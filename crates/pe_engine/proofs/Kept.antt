@@ -7,11 +7,13 @@ use Rattle.std.proofs.lemmas.Bool.Decides.{Decides-eqb, nat_tests}
 use Rattle.pe_arena.specs.declared.handle.Handle.{Handle}
 use Rattle.pe_frames.specs.Forest.{Entry, Forest, path, same_handle, is_under, with_document, mark_of, Gives, opened}
 use Rattle.pe_frames.specs.Order.{closed, navigated}
+use Rattle.pe_store.specs.declared.key.Key.TheVariants as key
 use Rattle.pe_events.specs.declared.event.Event.TheVariants as event
 use Rattle.pe_rules.specs.History.{Step, RepliedHistory, some_if}
 use Rattle.pe_rules.specs.Numbering.{is_frame, makes_frame, document_frame, frames_made}
 use Rattle.pe_rules.specs.Attributes.{attributes_of}
 use Rattle.pe_rules.specs.Current.{ends, frames_above, document_in, is_live}
+use Rattle.pe_rules.specs.Origins.{origin_of}
 use Rattle.pe_laws.specs.HistoryLaws.{HistoryLaws}
 use Rattle.pe_laws.specs.CurrentLaws.{left_in}
 use Rattle.pe_laws.specs.Effects.{effects}
@@ -20,9 +22,10 @@ use Rattle.pe_engine.specs.declared.row.Row.{Row}
 use Rattle.pe_engine.specs.declared.engine.Made.{Made}
 use Rattle.pe_engine.specs.declared.engine.Made.TheVariants as made
 use Rattle.pe_engine.specs.Objects.{handle_in, handle_at, Apart}
-use Rattle.pe_engine.specs.Rows.{IsRow, IsSettled, kept_attributes}
+use Rattle.pe_engine.specs.Rows.{top_origin, IsRow, IsSettled, kept_attributes}
 use Rattle.pe_engine.specs.Tree.{Each, IsNode, IsTree}
 use Rattle.pe_engine.proofs.Lists.{each-kept, each-map, each-all, filter-within, filter-same, map-filter, filter-all, map-left, each-listed}
+use Rattle.pe_engine.proofs.TopDocuments.{top-origin-older}
 use Rattle.pe_engine.proofs.Handles.{Grows, grows, path-grows, has-agrees, handle-last, handle-beside, handle-nothing, same-frame}
 
 flip : (b : Bool) → not b ≡ true → b ≡ false
@@ -40,6 +43,10 @@ module _ (laws : HistoryLaws) where
   settled-stays s T x le is = record {
     origin = is.origin ∙ sym (laws.origins.origin_of_older s T x.doc (not-itself (length T) x.doc le));
     sandboxed = is.sandboxed ∙ sym (laws.origins.sandbox_flag_older s T x.doc (not-itself (length T) x.doc le));
+    secure = is.secure ∙ sym (laws.origins.is_secure_older s T x.doc le);
+    single = is.single ∙ ap key.One (sym (top-origin-older laws s T x.doc is.policy.top is.policy.rest (not-itself (length T) x.doc le) is.policy.chained));
+    pair = is.pair ∙ ap (λ o. key.Pair o (origin_of T x.doc)) (sym (top-origin-older laws s T x.doc is.policy.top is.policy.rest (not-itself (length T) x.doc le) is.policy.chained))
+        ∙ ap (key.Pair (top_origin (s ∷ T) x.doc)) (sym (laws.origins.origin_of_older s T x.doc (not-itself (length T) x.doc le)));
     policy = record {
       top = is.policy.top;
       rest = is.policy.rest;

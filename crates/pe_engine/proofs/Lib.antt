@@ -1,5 +1,6 @@
 pub mod Lists
 pub mod Handles
+pub mod TopDocuments
 pub mod Kept
 pub mod Look
 pub mod CausesParts

@@ -187,7 +187,7 @@ module _ (laws : HistoryLaws) where
 
       new : (item : StepAnswer) → IsRow (step item ∷ T) f (record x { attributes = y.doc.attributes })
       new item = record {
-        settled = record { origin = (settled item).origin; sandboxed = (settled item).sandboxed; policy = (settled item).policy };
+        settled = record { origin = (settled item).origin; sandboxed = (settled item).sandboxed; secure = (settled item).secure; single = (settled item).single; pair = (settled item).pair; policy = (settled item).policy };
         stamp = fresh.stamp ∙ sym (laws.activation.stamp_newest (step item) T) ∙ ap (stamp_of (step item ∷ T)) (sym (fresh.doc ∙ number-is));
         second = fresh.second ∙ sym (laws.history_activation.second_stamp_newest (step item) T) ∙ ap (second_stamp_of (step item ∷ T)) (sym (fresh.doc ∙ number-is));
         attributes = attributes-are ∙ ap kept_attributes (sym (laws.effects.attributes_stay (step item) T f refl));

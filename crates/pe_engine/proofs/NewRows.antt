@@ -4,6 +4,8 @@ use Rattle.std.proofs.lemmas.List.{map-append}
 use Rattle.pe_features.specs.declared.feature.Feature.{Feature}
 use Rattle.pe_origin.specs.declared.origin.Origin.{Origin}
 use Rattle.pe_origin.specs.declared.place.Place.{Place}
+use Rattle.pe_origin.specs.Trust.{is_trustworthy}
+use Rattle.pe_store.specs.declared.key.Key.TheVariants as key
 use Rattle.pe_allowlist.specs.Lists.{lists_of}
 use Rattle.pe_allowlist.specs.ContainerPolicy.{container_policy}
 use Rattle.pe_allowlist.specs.declared.allowlist.Allowlist.{Allowlist}
@@ -13,14 +15,15 @@ use Rattle.pe_policy.specs.PolicyValue.{IsDocument}
 use Rattle.pe_rules.specs.History.{Step, RepliedHistory}
 use Rattle.pe_rules.specs.Attributes as rules
 use Rattle.pe_rules.specs.Making.{Making, making_by}
-use Rattle.pe_rules.specs.Embedders.{chain}
-use Rattle.pe_rules.specs.Origins.{origin_of, sandbox_flag, origin_of_place, place_or_none, is_blank_kind, declared_origin}
+use Rattle.pe_rules.specs.Embedders.{chain, top_document}
+use Rattle.pe_rules.specs.Origins.{origin_of, is_secure, sandbox_flag, origin_of_place, place_or_none, is_blank_kind, declared_origin}
 use Rattle.pe_rules.specs.Denials.{declared_policy_in, container_in, container_policy_in, chain_document, chain_documents}
 use Rattle.pe_laws.specs.HistoryLaws.{HistoryLaws}
 use Rattle.pe_engine.specs.declared.row.Attributes.{Attributes}
 use Rattle.pe_engine.specs.declared.row.Row.{Row}
-use Rattle.pe_engine.specs.Rows.{IsSettled, kept_attributes}
-use Rattle.pe_engine.specs.Making.{child_origin, kept_declared, IsLinkOf, IsContainedBy, IsTopRow, IsChildRow}
+use Rattle.pe_engine.specs.Rows.{top_origin, IsSettled, kept_attributes}
+use Rattle.pe_engine.specs.Making.{top_of, child_origin, kept_declared, IsLinkOf, IsContainedBy, IsTopRow, IsChildRow}
+use Rattle.pe_engine.proofs.TopDocuments.{top-is, secure-top, top-origin-child, secure-child}
 
 -- a link with this header has the declared policy that is read from it
 pub is-document : (link : ChainDocument) (number document : ℕ) (o : Origin) (header : Option (List ℕ)) (declared : List (Feature × Allowlist)) → document ≡ number
@@ -92,10 +95,14 @@ module _ (laws : HistoryLaws) where
   settled-top s T m number place x e top at named is =
       let k = suc (length T) in
       let doc : x.doc ≡ k = is.new.doc ∙ at in
+      let tops : top_document (s ∷ T) k ≡ k = top-is (s ∷ T) k k [] (chain-top s T m e top) in
       let own : origin_of (s ∷ T) k ≡ x.origin = origin-top s T m e top ∙ ap (origin_of_place k) named ∙ ap (λ n. origin_of_place n place) (sym at) ∙ sym is.origin in
       record {
         origin = sym own ∙ ap (origin_of (s ∷ T)) (sym doc);
         sandboxed = is.sandboxed ∙ sym (flag-top s T m e top) ∙ ap (sandbox_flag (s ∷ T)) (sym doc);
+        secure = is.secure ∙ ap is_trustworthy (sym named) ∙ sym (secure-top (s ∷ T) k m tops (laws.making.making_newest s T ∙ e)) ∙ ap (is_secure (s ∷ T)) (sym doc);
+        single = is.single ∙ ap key.One (sym own ∙ ap (origin_of (s ∷ T)) (sym tops) ∙ ap (top_origin (s ∷ T)) (sym doc));
+        pair = is.pair ∙ ap (λ o. key.Pair o x.origin) (sym own ∙ ap (origin_of (s ∷ T)) (sym tops) ∙ ap (top_origin (s ∷ T)) (sym doc)) ∙ ap (key.Pair (top_origin (s ∷ T) x.doc)) (sym own ∙ ap (origin_of (s ∷ T)) (sym doc));
         policy = record {
           top = chain_document (s ∷ T) k;
           rest = [];
@@ -114,6 +121,9 @@ module _ (laws : HistoryLaws) where
       record {
         origin = sym own ∙ ap (origin_of (s ∷ T)) (sym doc);
         sandboxed = flag ∙ ap (sandbox_flag (s ∷ T)) (sym doc);
+        secure = is.secure ∙ above.secure ∙ sym (secure-child laws s T m up.doc above.policy.top above.policy.rest le e is_up above.policy.chained) ∙ ap (is_secure (s ∷ T)) (sym doc);
+        single = is.single ∙ above.single ∙ ap key.One tops;
+        pair = is.pair ∙ ap (λ k. key.Pair (top_of k) x.origin) above.single ∙ ap (λ o. key.Pair o x.origin) tops ∙ ap (key.Pair (top_origin (s ∷ T) x.doc)) (sym own ∙ ap (origin_of (s ∷ T)) (sym doc));
         policy = record {
           top = above.policy.top;
           rest = above.policy.rest ++ link ∷ [];
@@ -138,6 +148,9 @@ module _ (laws : HistoryLaws) where
 
       own : origin_of (s ∷ T) k ≡ x.origin
       own = laws.origins.origin_of_newest s T m e ∙ rw (is_up, named, sym flag, sym above.origin) (ap (λ n. child_origin x.sandboxed up.origin n place m.srcdoc) (sym at) ∙ sym is.origin)
+
+      tops : top_origin T up.doc ≡ top_origin (s ∷ T) x.doc
+      tops = sym (top-origin-child laws s T m up.doc above.policy.top above.policy.rest e is_up above.policy.chained) ∙ ap (top_origin (s ∷ T)) (sym doc)
 
       last_origin : (end_of_chain above.policy.top above.policy.rest).origin ≡ origin_of T up.doc
       last_origin = ap (λ (l : ChainDocument). l.origin) above.policy.last

@@ -6,12 +6,15 @@ use Rattle.pe_features.specs.declared.feature.Feature.{Feature}
 use Rattle.pe_origin.specs.declared.origin.Origin.{Origin}
 use Rattle.pe_origin.specs.declared.origin.Origin.TheVariants as origin
 use Rattle.pe_origin.specs.declared.place.Place.{Place}
+use Rattle.pe_origin.specs.Trust.{is_trustworthy}
 use Rattle.pe_allowlist.specs.declared.container.DeclaredOrigin.{DeclaredOrigin}
 use Rattle.pe_allowlist.specs.declared.container.DeclaredOrigin.TheVariants as declared
 use Rattle.pe_allowlist.specs.ContainerPolicy.{container_policy}
 use Rattle.pe_header.specs.DeclaredPolicy.{declared_policy}
 use Rattle.pe_policy.specs.Links.{ChainDocument, end_of_chain}
 use Rattle.pe_policy.specs.PolicyValue.{IsPolicyOf}
+use Rattle.pe_store.specs.declared.key.Key.{Key}
+use Rattle.pe_store.specs.declared.key.Key.TheVariants as key
 use Rattle.pe_rules.specs.Origins.{sandboxes_origin, origin_of_place, is_blank_kind, declared_by_place}
 use Rattle.pe_engine.specs.declared.row.Attributes.{Attributes}
 use Rattle.pe_engine.specs.declared.row.Row.{Row}
@@ -36,6 +39,11 @@ abbrev pub kept_declared : Attributes → Bool → Origin → DeclaredOrigin
 kept_declared attributes flag embedder =
     if flag || sandboxes attributes then declared.Opaque else (if attributes.srcdoc then declared.Known embedder else declared_by_kept embedder attributes.src)
 
+-- the origin of the top document of the page that a key is for
+abbrev pub top_of : Key → Origin
+top_of (key.One top) = top
+top_of (key.Pair top own) = top
+
 -- the document of a chain is this one, with this origin and header
 pub record IsLinkOf (link : ChainDocument) (document : ℕ) (origin : Origin) (header : Option (List ℕ)) : Type 0 where
   pub numbered : link.document ≡ document
@@ -59,6 +67,9 @@ pub record IsTopRow (number : ℕ) (place : Place) (header : Option (List ℕ)) 
   pub new : IsNew number x
   pub sandboxed : x.sandboxed ≡ false
   pub origin : x.origin ≡ origin_of_place number place
+  pub secure : x.secure ≡ is_trustworthy place
+  pub single : x.single ≡ key.One x.origin
+  pub pair : x.pair ≡ key.Pair x.origin x.origin
   pub policy : (top : ChainDocument) → IsLinkOf top number x.origin header → IsPolicyOf x.policy top []
 
 -- the row of a document that is embedded with these attributes
@@ -66,5 +77,8 @@ pub record IsChildRow (embedder : Row) (number : ℕ) (place : Place) (srcdoc : 
   pub new : IsNew number x
   pub sandboxed : x.sandboxed ≡ (embedder.sandboxed || sandboxes attributes)
   pub origin : x.origin ≡ child_origin x.sandboxed embedder.origin number place srcdoc
+  pub secure : x.secure ≡ embedder.secure
+  pub single : x.single ≡ embedder.single
+  pub pair : x.pair ≡ key.Pair (top_of embedder.single) x.origin
   pub policy : (top : ChainDocument) (rest : List ChainDocument) (child : ChainDocument) → IsPolicyOf embedder.policy top rest → (end_of_chain top rest).origin ≡ embedder.origin
       → IsLinkOf child number x.origin header → IsContainedBy child attributes embedder → IsPolicyOf x.policy top (rest ++ child ∷ [])

@@ -3,10 +3,13 @@
 use Rattle.std.specs.Prelude.{◌≡◌, ℕ, false, List, ◌∷◌, Option, Some, None, option_map}
 use Rattle.pe_policy.specs.Links.{ChainDocument, end_of_chain}
 use Rattle.pe_policy.specs.PolicyValue.{PolicyValue, IsPolicyOf}
+use Rattle.pe_origin.specs.declared.origin.Origin.{Origin}
+use Rattle.pe_store.specs.declared.key.Key.TheVariants as key
 use Rattle.pe_rules.specs.History.{RepliedHistory}
 use Rattle.pe_rules.specs.Attributes as rules
 use Rattle.pe_rules.specs.Attributes.{attributes_of}
-use Rattle.pe_rules.specs.Origins.{origin_of, sandbox_flag, place_or_none}
+use Rattle.pe_rules.specs.Origins.{origin_of, sandbox_flag, place_or_none, is_secure}
+use Rattle.pe_rules.specs.Embedders.{top_document}
 use Rattle.pe_rules.specs.Numbering.{parent_frame}
 use Rattle.pe_rules.specs.Current.{document_in}
 use Rattle.pe_rules.specs.Denials.{chain_document, chain_documents}
@@ -31,10 +34,17 @@ pub record HasPolicy (T : RepliedHistory) (d : ℕ) (policy : PolicyValue) : Typ
   pub last : end_of_chain top rest ≡ chain_document T d
   pub stands : IsPolicyOf policy top rest
 
+-- the origin of the top document of a document's page
+abbrev pub top_origin : RepliedHistory → ℕ → Origin
+top_origin T d = origin_of T (top_document T d)
+
 -- what is settled when the document is made
 pub record IsSettled (T : RepliedHistory) (x : Row) : Type 0 where
   pub origin : x.origin ≡ origin_of T x.doc
   pub sandboxed : x.sandboxed ≡ sandbox_flag T x.doc
+  pub secure : x.secure ≡ is_secure T x.doc
+  pub single : x.single ≡ key.One (top_origin T x.doc)
+  pub pair : x.pair ≡ key.Pair (top_origin T x.doc) (origin_of T x.doc)
   pub policy : HasPolicy T x.doc x.policy
 
 -- the row of a document that frame f shows: what is settled, and what events change

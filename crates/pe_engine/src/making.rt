@@ -9,16 +9,18 @@ ghost use Rattle.pe_allowlist.specs.ContainerPolicy.{container_policy};
 ghost use Rattle.pe_allowlist.specs.declared.container.DeclaredOrigin.TheVariants as declared;
 ghost use Rattle.pe_origin.specs.declared.origin.Origin.TheVariants as kind;
 ghost use Rattle.pe_policy.specs.Links.{ChainDocument, end_of_chain};
+ghost use Rattle.pe_store.specs.declared.key.Key.TheVariants as key;
 ghost use Rattle.pe_policy.specs.PolicyValue.{IsPolicyOf};
 ghost use Rattle.pe_rules.specs.Origins.{origin_of_place, is_blank_kind, sandboxes_origin, declared_by_place};
-ghost use Rattle.pe_engine.specs.Making.{sandboxes, child_origin, kept_declared, declared_by_kept, IsLinkOf, IsContainedBy, IsTopRow, IsChildRow};
+ghost use Rattle.pe_engine.specs.Making.{top_of, sandboxes, child_origin, kept_declared, declared_by_kept, IsLinkOf, IsContainedBy, IsTopRow, IsChildRow};
 
 use crate::row::{Attributes, Row};
 use pe_allowlist::{Container, DeclaredOrigin, read_allow};
 use pe_base::{Bytes, DocNo, EVENT_LIMIT, Stamp};
 use pe_header::read_header;
-use pe_origin::{Origin, Place, PlaceKind, Tuple};
+use pe_origin::{Origin, Place, PlaceKind, Tuple, trustworthy};
 use pe_policy::Policy;
+use pe_store::Key;
 use std::alloc::{AllocError, Global};
 
 /// Whether the byte is ASCII whitespace.
@@ -210,6 +212,17 @@ fn child_policy(
     ))
 }
 
+/// The key of the document of this origin in the page that the other key is for. `AllocError` where
+/// memory wants.
+fn pair_key(single: &Key, own: &Origin) -> Result<Key, AllocError>
+    ensures { IfOk result (λ found. found ≡ key.Pair (top_of single.now) own.now) }
+{
+    match single {
+        Key::One(top) => Ok(Key::Pair(top.copy()?, own.copy()?)),
+        Key::Pair(top, _) => Ok(Key::Pair(top.copy()?, own.copy()?)),
+    }
+}
+
 /// The row of a top document, with no attributes yet. `AllocError` where memory wants.
 pub(crate) fn top_row(
     alloc: Global,
@@ -221,14 +234,20 @@ pub(crate) fn top_row(
     requires high { number ≤ EVENT_LIMIT }
     ensures { IfOk result (IsTopRow number place (option_copied header.entry)) }
 {
+    let secure = trustworthy(&place);
     let origin = origin_of_place(place, number);
     let policy = top_policy(alloc, number, &origin, header)?;
+    let single = Key::One(origin.copy()?);
+    let pair = pair_key(&single, &origin)?;
     Ok(Row {
         stamp: Stamp::Never,
         second: Stamp::Never,
         doc: DocNo::of(number),
         sandboxed: false,
+        secure,
         origin,
+        single,
+        pair,
         attributes: Attributes::none(),
         policy,
     })
@@ -252,12 +271,17 @@ pub(crate) fn child_row(
     let sandboxed = embedder.sandboxed || sandboxes(attributes);
     let origin = child_origin(sandboxed, &embedder.origin, number, place, srcdoc)?;
     let policy = child_policy(alloc, embedder, number, &origin, header, attributes)?;
+    let single = embedder.single.copy()?;
+    let pair = pair_key(&single, &origin)?;
     Ok(Row {
         stamp: Stamp::Never,
         second: Stamp::Never,
         doc: DocNo::of(number),
         sandboxed,
+        secure: embedder.secure,
         origin,
+        single,
+        pair,
         attributes: Attributes::none(),
         policy,
     })

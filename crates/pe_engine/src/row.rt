@@ -10,6 +10,7 @@ use pe_base::{Bytes, DocNo, Stamp};
 use pe_frames::Numbered;
 use pe_origin::{Origin, Place, same_origin};
 use pe_policy::Policy;
+use pe_store::Key;
 
 /// The attributes of a frame that are in force (HTML Standard, "the iframe element"): they act on the
 /// next document that is made in the frame.
@@ -39,8 +40,15 @@ pub struct Row {
     /// Whether the sandbox gives it an opaque origin (HTML Standard, "sandboxed origin browsing context
     /// flag").
     pub sandboxed: bool,
+    /// Whether it is in a secure context (Secure Contexts, "secure context").
+    pub secure: bool,
     /// The origin.
     pub origin: Origin,
+    /// Under what the permissions are kept that are for the page's top document alone (Permissions,
+    /// "permission key").
+    pub single: Key,
+    /// Under what those are kept that are for the document and the page's top document.
+    pub pair: Key,
     /// The attributes of its frame.
     pub attributes: Attributes,
     /// The policy.

@@ -36,8 +36,9 @@ fn take_attributes<L: Ledger>(
     h: Handle,
     steps: &mut Steps<L>,
 ) -> Attributes
-    ensures { IfSome (entry_of frames.old.entries h) (λ e. (result ≡ e.doc.attributes)
+    ensures taken { IfSome (entry_of frames.old.entries h) (λ e. (result ≡ e.doc.attributes)
         × (frames.new ≡ with_doc frames.old h (record e.doc { attributes = no_kept_attributes }))) }
+    ensures made { frames.new.made ≡ frames.old.made }
 {
     match frames.doc_mut(h, steps) {
         Some(row) => replace(&mut row.attributes, Attributes::none()),

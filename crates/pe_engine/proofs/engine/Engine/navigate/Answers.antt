@@ -1,4 +1,4 @@
-use Rattle.std.proofs.Common.{◌≡◌, ◌∷◌, refl, sym, ◌∙◌, ap, subst}
+use Rattle.std.proofs.Common.{arith, ◌≡◌, ◌∷◌, refl, sym, ◌∙◌, ap, subst}
 use Rattle.std.specs.Prelude.{IfSome}
 use Rattle.pe_frames.specs.Forest.{Forest, entry_of, with_doc}
 use Rattle.pe_frames.specs.Order.{navigated}
@@ -33,7 +33,7 @@ returns g c = λ H s.
     let V = c.take_attributes.new.frames in
     let n = noted e c.note.new.self _ _ _ N c.self.view_is c.in_ok-note.ensures.ok in
     let (y, found) = some-of (entry_of e.frames.entries h) c.in_ok-number.ensures.found in
-    let clause = subst (λ (v : Forest Row). IfSome (entry_of v.entries h) (λ z. (c.take_attributes.result ≡ z.doc.attributes) × (V ≡ with_doc v h (record z.doc { attributes = no_kept_attributes })))) (ap (λ (v : EngineValue). v.frames) c.self.view_is) c.take_attributes.ensures in
+    let clause = subst (λ (v : Forest Row). IfSome (entry_of v.entries h) (λ z. (c.take_attributes.result ≡ z.doc.attributes) × (V ≡ with_doc v h (record z.doc { attributes = no_kept_attributes })))) (ap (λ (v : EngineValue). v.frames) c.self.view_is) c.take_attributes.ensures.taken in
     let taken = subst (λ o. IfSome o (λ z. (c.take_attributes.result ≡ z.doc.attributes) × (V ≡ with_doc e.frames h (record z.doc { attributes = no_kept_attributes })))) found clause in
     let named = sym (ap place_at c.as_slice.ensures) ∙ c.in-Ok.ensures in
     let entries = c.in-Ok-navigate.ensures.entries
@@ -45,3 +45,9 @@ returns g c = λ H s.
     c.in_ok-row.ensures.new
     (λ item. subst (λ o. IsSettled (record { time = c.args.now; event = event.Navigate c.args.frame c.args.url.now o; item = item } ∷ T) x) c.bytes_of.ensures (c.in_ok-row.ensures.settled H c.args.now c.args.frame c.args.url.now item s c.in_ok-number.ensures.handle named c.in_ok-number.ensures.number))
     entries (c.in-Ok-navigate.ensures.marks ∙ ap (λ (v : Forest Row). v.marks) taken.1) n)
+
+pub invariant_of-self : goal.invariant_of-self
+invariant_of-self g c = (c.self.invariant.0, omega (arith, c.navigate.ensures.made, c.take_attributes.ensures.made, c.self.invariant.1))
+
+pub invariant_of-self-2 : goal.invariant_of-self-2
+invariant_of-self-2 g c = (c.self.invariant.0, omega (arith, c.navigate.ensures.made, c.take_attributes.ensures.made, c.self.invariant.1))
