@@ -34,7 +34,7 @@ fn gather_ended<D: Governed, L: Ledger>(
     now: Millis,
     steps: &mut Steps<L>,
 ) -> Result<Vec<Change>, AllocError>
-    ensures { IfOk result (λ changes. changes.items ≡ changes_under (is_silent D.doc_no D.blocks frames.now.entries) now state.Prompt statuses.now.live ended.now) }
+    ensures { IfOk result (λ changes. changes.items ≡ changes_under (is_silent D.doc_no D.blocks_feature frames.now.entries) now state.Prompt statuses.now.live ended.now) }
 {
     let mut changes = Vec::new(alloc);
     for (feature, key) in ended {
@@ -55,7 +55,7 @@ pub fn changes_of_end<D: Governed, L: Ledger>(
     now: Millis,
     steps: &mut Steps<L>,
 ) -> Result<Vec<Change>, AllocError>
-    ensures { (duration : ℕ) (H : History) (s : Step) (f doc : ℕ) (old : StoreValue) → IsTrue (is_regular duration H) → IsTrue (ends (f ∷ []) s.event) → document_in (replied duration H) f ≡ Some doc → IsStore (replied duration H) now old → IsStatuses (s ∷ replied duration H) statuses.now → AreGoverned (s ∷ replied duration H) D.doc_no D.blocks frames.now.entries statuses.now.live → AreApart ended.now → ((pair : Pair) → is_listed pair ended.now ≡ has_life is_page_of doc (store.entry_of old.entries pair)) → IfOk result (λ changes. changes.items ≡ changes_after (replied duration H) (s ∷ replied duration H) now) }
+    ensures { (duration : ℕ) (H : History) (s : Step) (f doc : ℕ) (old : StoreValue) → IsTrue (is_regular duration H) → IsTrue (ends (f ∷ []) s.event) → document_in (replied duration H) f ≡ Some doc → IsStore (replied duration H) now old → IsStatuses (s ∷ replied duration H) statuses.now → AreGoverned (s ∷ replied duration H) D.doc_no D.blocks_feature frames.now.entries statuses.now.live → AreApart ended.now → ((pair : Pair) → is_listed pair ended.now ≡ has_life is_page_of doc (store.entry_of old.entries pair)) → IfOk result (λ changes. changes.items ≡ changes_after (replied duration H) (s ∷ replied duration H) now) }
 {
     history_laws();
     same_pairs_are_one();

@@ -8,9 +8,9 @@ use pe_frames::Numbered;
 /// A document that may be denied a feature whatever is stored for it: it is in no secure context, or its
 /// policy denies the feature.
 pub trait Governed: Numbered {
-    ghost blocks: { Self → Feature → Bool };
+    ghost blocks_feature: { Self → Feature → Bool };
 
     /// Whether the document is denied the feature, whatever is stored.
     fn is_blocked(&self, feature: Feature) -> bool
-        ensures { result ≡ blocks self.now feature };
+        ensures { result ≡ blocks_feature self.now feature };
 }

@@ -28,7 +28,7 @@ fn append_ended<D: Governed, L: Ledger>(
     entry: Entry,
     steps: &mut Steps<L>,
 ) -> Result<(), AllocError>
-    ensures list { OnOk result (changes.new.items ≡ changes.old.items ++ flat_map (change_from (is_silent D.doc_no D.blocks frames.now.entries) moment entry.state state.Prompt) (later_under (store.pair_of entry) None statuses.now.live)) }
+    ensures list { OnOk result (changes.new.items ≡ changes.old.items ++ flat_map (change_from (is_silent D.doc_no D.blocks_feature frames.now.entries) moment entry.state state.Prompt) (later_under (store.pair_of entry) None statuses.now.live)) }
     ensures cost { OnOk result (steps.new ≤ steps.old + 1 + length (later_under (store.pair_of entry) None statuses.now.live)) }
 {
     append_changes(
@@ -53,7 +53,7 @@ fn gather_lapses<D: Governed, L: Ledger>(
     to: Millis,
     steps: &mut Steps<L>,
 ) -> Result<Vec<Change>, AllocError>
-    ensures list { IfOk result (λ changes. AreLapses to (is_silent D.doc_no D.blocks frames.now.entries) statuses.now.live store.old.entries store.new.entries changes.items) }
+    ensures list { IfOk result (λ changes. AreLapses to (is_silent D.doc_no D.blocks_feature frames.now.entries) statuses.now.live store.old.entries store.new.entries changes.items) }
     ensures dismissals { OnOk result (store.new.dismissals ≡ store.old.dismissals) }
 {
     same_pairs_are_one();
@@ -84,7 +84,7 @@ pub fn lapse<D: Governed, L: Ledger>(
     to: Millis,
     steps: &mut Steps<L>,
 ) -> Result<Vec<Change>, AllocError>
-    ensures changes { (T : RepliedHistory) → clock T ≤ to → IsStore T (clock T) store.old → IsStatuses T statuses.now → AreGoverned T D.doc_no D.blocks frames.now.entries statuses.now.live → IfOk result (λ changes. changes.items ≡ changes_before T to) }
+    ensures changes { (T : RepliedHistory) → clock T ≤ to → IsStore T (clock T) store.old → IsStatuses T statuses.now → AreGoverned T D.doc_no D.blocks_feature frames.now.entries statuses.now.live → IfOk result (λ changes. changes.items ≡ changes_before T to) }
     ensures stands { (T : RepliedHistory) → clock T ≤ to → IsStore T (clock T) store.old → OnOk result (IsStore T to store.new) }
 {
     history_laws();

@@ -48,7 +48,7 @@ pub fn changes_of_setting<D: Governed, L: Ledger>(
     now: Millis,
     steps: &mut Steps<L>,
 ) -> Result<Vec<Change>, AllocError>
-    ensures { (T : RepliedHistory) (s : Step) (x : Setting) → setting_by s.time s.event T ≡ Some x → x.pair ≡ (feature, key.now) → x.state ≡ after → IsTrue (holds (s ∷ T) now x.life) → IsStore T now store.now → IsStatuses T statuses.now → AreGoverned T D.doc_no D.blocks frames.now.entries statuses.now.live → IfOk result (λ changes. changes.items ≡ changes_after T (s ∷ T) now) }
+    ensures { (T : RepliedHistory) (s : Step) (x : Setting) → setting_by s.time s.event T ≡ Some x → x.pair ≡ (feature, key.now) → x.state ≡ after → IsTrue (holds (s ∷ T) now x.life) → IsStore T now store.now → IsStatuses T statuses.now → AreGoverned T D.doc_no D.blocks_feature frames.now.entries statuses.now.live → IfOk result (λ changes. changes.items ≡ changes_after T (s ∷ T) now) }
 {
     history_laws();
     same_pairs_are_one();
