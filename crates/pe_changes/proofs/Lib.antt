@@ -5,3 +5,6 @@ pub mod Lapses
 pub mod Before
 pub mod Turns
 pub mod Governing
+pub mod Stored
+pub mod After
+pub mod Leaving
