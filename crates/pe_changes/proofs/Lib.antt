@@ -8,3 +8,5 @@ pub mod Governing
 pub mod Stored
 pub mod After
 pub mod Leaving
+pub mod Stores
+pub mod End
