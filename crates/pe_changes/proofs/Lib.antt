@@ -10,3 +10,4 @@ pub mod After
 pub mod Leaving
 pub mod Stores
 pub mod End
+pub mod Registered
