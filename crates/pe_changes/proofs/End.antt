@@ -1,5 +1,5 @@
 -- The changes that the end of a top document brings.
-use Rattle.std.proofs.Common.{◌≡◌, ◌≢◌, ℕ, ◌+◌, ◌<◌, ◌≤◌, Bool, true, false, not, ◌||◌, List, [], ◌∷◌, ◌++◌, length, map, filter, flat_map, Option, Some, None, is_some, unwrap_or, option_map, option_and_then, option_to_list, refl, sym, ◌∙◌, ap, arith, cond, subst, append-nil, take, get_or, true≢false}
+use Rattle.std.proofs.Common.{◌≡◌, ◌≢◌, ℕ, ◌+◌, ◌<◌, ◌≤◌, Bool, true, false, not, ◌||◌, List, [], ◌∷◌, ◌++◌, length, map, filter, flat_map, Option, Some, None, is_some, unwrap_or, option_map, option_and_then, option_to_list, refl, sym, ◌∙◌, ap, arith, cond, subst, append-nil, length-append, take, get_or, true≢false}
 use Rattle.std.specs.Bool.{Decides}
 use Rattle.std.specs.List.Sorted.{IsPermutation}
 use Rattle.std.proofs.lemmas.Bool.Decides.{nat_tests}
@@ -29,7 +29,7 @@ use Rattle.pe_laws.specs.PermissionStateLaws.{is_blocked}
 use Rattle.pe_laws.specs.SettingsLaws.{leaves_life, in_force}
 use Rattle.pe_laws.specs.StatusesLaws.{Each}
 use Rattle.pe_changes.specs.Bags.{count, IsSameBag}
-use Rattle.pe_changes.specs.Gathered.{change_to, change_from, changes_under}
+use Rattle.pe_changes.specs.Gathered.{change_to, change_from, changes_under, statuses_under}
 use Rattle.pe_changes.specs.Parts.{entry_by, IsStore, status_of_row, IsStatuses}
 use Rattle.pe_changes.proofs.After.{change_stored, ArePaired, same-stored, from-stored, live-before, after-is}
 use Rattle.pe_changes.proofs.Before.{AreBlocked}
@@ -42,12 +42,12 @@ use Rattle.pe_changes.proofs.Stored.{in-force-is, decides, unset-in-force}
 
 -- ---- the statuses of several pairs
 
-none-listed : (f : Registered → List Change) (r : Registered) → cond (is_listed (pair_of r) []) (f r) [] ≡ []
+none-listed : {C : Type 0} (f : Registered → List C) (r : Registered) → cond (is_listed (pair_of r) []) (f r) [] ≡ []
 unfolding is_listed
 none-listed f r = refl
 
 module _ (pairs : (p q : Pair) → Decides (is_same_pair p q) (p ≡ q)) where
-  ended-bag : (f : Registered → List Change) (live : List Registered) (ended : List Pair) → AreApart ended
+  pub ended-bag : {C : Type 0} (f : Registered → List C) (live : List Registered) (ended : List Pair) → AreApart ended
       → IsSameBag (flat_map (λ p. flat_map f (later_under p None live)) ended) (flat_map (λ r. cond (is_listed (pair_of r) ended) (f r) []) live)
   unfolding is_listed AreApart
   ended-bag f live [] apart test = ap (count test) (sym (flat-none (λ r. cond (is_listed (pair_of r) []) (f r) []) (none-listed f) live))
@@ -174,3 +174,14 @@ under-more F ps i p lt is =
 
 pub under-whole : (F : Pair → List Change) (ps : List Pair) (i : ℕ) → length ps ≤ i → flat_map F (take i ps) ≡ flat_map F ps
 under-whole F ps i le = ap (flat_map F) (take_all i ps le)
+
+pub more-under : (live : List Registered) (ps : List Pair) (i : ℕ) (p : Pair) → i < length ps → p ≡ get_or ps i p
+    → length (statuses_under live (take (i + 1) ps)) ≡ length (statuses_under live (take i ps)) + length (later_under p None live)
+more-under live ps i p lt is =
+    ap length
+    (ap (statuses_under live) (take_more ps i p lt) ∙ flat_map-append (λ p. later_under p None live) (take i ps) (get_or ps i p ∷ [])
+    ∙ ap (λ (q : Pair). statuses_under live (take i ps) ++ (later_under q None live ++ [])) (sym is) ∙ ap (λ (xs : List Registered). statuses_under live (take i ps) ++ xs) (append-nil (later_under p None live)))
+    ∙ length-append (statuses_under live (take i ps)) (later_under p None live)
+
+pub whole-under : (live : List Registered) (ps : List Pair) (i : ℕ) → length ps ≤ i → statuses_under live (take i ps) ≡ statuses_under live ps
+whole-under live ps i le = ap (statuses_under live) (take_all i ps le)

@@ -11,3 +11,4 @@ pub mod Leaving
 pub mod Stores
 pub mod End
 pub mod Registered
+pub mod Costs

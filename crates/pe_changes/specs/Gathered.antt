@@ -27,6 +27,10 @@ change_from silent time before after r = if is_same_state before after then [] e
 abbrev pub changes_under : (Registered → Bool) → ℕ → State → List Registered → List Pair → List Change
 changes_under silent time after live pairs = flat_map (λ pair. flat_map (change_to silent time after) (later_under pair None live)) pairs
 
+-- the statuses of these pairs, by pair
+abbrev pub statuses_under : List Registered → List Pair → List Registered
+statuses_under live pairs = flat_map (λ pair. later_under pair None live) pairs
+
 -- what entries store for a pair
 abbrev pub state_in : List Entry → Pair → Option State
 state_in entries pair = option_map (λ e. e.state) (entry_of entries pair)

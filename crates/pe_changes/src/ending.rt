@@ -1,5 +1,5 @@
 //! The changes that the end of a top document brings.
-ghost use Rattle.std.specs.Prelude.{◌≡◌, ◌∷◌, ◌++◌, [], ℕ, Some, None, IsTrue, IfOk, OnOk, flat_map};
+ghost use Rattle.std.specs.Prelude.{◌≡◌, ◌≤◌, ◌+◌, ◌∷◌, [], ℕ, Some, IsTrue, IfOk, OnOk, length};
 ghost use Rattle.pe_base.specs.declared.state.State.TheVariants as state;
 ghost use Rattle.pe_store.specs.Entries as store;
 ghost use Rattle.pe_store.specs.Entries.{StoreValue};
@@ -11,7 +11,7 @@ ghost use Rattle.pe_rules.specs.Current.{ends, document_in};
 ghost use Rattle.pe_rules.specs.Changes.{changes_after};
 ghost use Rattle.pe_rules.specs.Replies.{replied, is_regular};
 ghost use Rattle.pe_changes.specs.Parts.{is_silent, IsStore, IsStatuses, AreGoverned};
-ghost use Rattle.pe_changes.specs.Gathered.{changes_under};
+ghost use Rattle.pe_changes.specs.Gathered.{changes_under, statuses_under};
 
 use crate::governed::Governed;
 use crate::walking::append_walked;
@@ -34,7 +34,8 @@ fn gather_ended<D: Governed, L: Ledger>(
     now: Millis,
     steps: &mut Steps<L>,
 ) -> Result<Vec<Change>, AllocError>
-    ensures { IfOk result (λ changes. changes.items ≡ changes_under (is_silent D.doc_no D.blocks_feature frames.now.entries) now state.Prompt statuses.now.live ended.now) }
+    ensures list { IfOk result (λ changes. changes.items ≡ changes_under (is_silent D.doc_no D.blocks_feature frames.now.entries) now state.Prompt statuses.now.live ended.now) }
+    ensures cost { OnOk result (steps.new ≡ steps.old + length ended.now + length (statuses_under statuses.now.live ended.now)) }
 {
     let mut changes = Vec::new(alloc);
     for (feature, key) in ended {
@@ -47,6 +48,7 @@ fn gather_ended<D: Governed, L: Ledger>(
 /// The changes that the end of a top document brings, by the number of the status: of the statuses that
 /// are live after it, by the pairs whose entries ended with it.
 /// `AllocError` where memory wants.
+/// It costs a tick for each pair, at most one for each live status, and one sort of the changes.
 pub fn changes_of_end<D: Governed, L: Ledger>(
     alloc: Global,
     ended: &[(Feature, Key)],
@@ -55,7 +57,8 @@ pub fn changes_of_end<D: Governed, L: Ledger>(
     now: Millis,
     steps: &mut Steps<L>,
 ) -> Result<Vec<Change>, AllocError>
-    ensures { (duration : ℕ) (H : History) (s : Step) (f doc : ℕ) (old : StoreValue) → IsTrue (is_regular duration H) → IsTrue (ends (f ∷ []) s.event) → document_in (replied duration H) f ≡ Some doc → IsStore (replied duration H) now old → IsStatuses (s ∷ replied duration H) statuses.now → AreGoverned (s ∷ replied duration H) D.doc_no D.blocks_feature frames.now.entries statuses.now.live → AreApart ended.now → ((pair : Pair) → is_listed pair ended.now ≡ has_life is_page_of doc (store.entry_of old.entries pair)) → IfOk result (λ changes. changes.items ≡ changes_after (replied duration H) (s ∷ replied duration H) now) }
+    ensures changes { (duration : ℕ) (H : History) (s : Step) (f doc : ℕ) (old : StoreValue) → IsTrue (is_regular duration H) → IsTrue (ends (f ∷ []) s.event) → document_in (replied duration H) f ≡ Some doc → IsStore (replied duration H) now old → IsStatuses (s ∷ replied duration H) statuses.now → AreGoverned (s ∷ replied duration H) D.doc_no D.blocks_feature frames.now.entries statuses.now.live → AreApart ended.now → ((pair : Pair) → is_listed pair ended.now ≡ has_life is_page_of doc (store.entry_of old.entries pair)) → IfOk result (λ changes. changes.items ≡ changes_after (replied duration H) (s ∷ replied duration H) now) }
+    ensures cost { AreApart ended.now → OnOk result (steps.new ≤ steps.old + length ended.now + length statuses.now.live) }
 {
     history_laws();
     same_pairs_are_one();

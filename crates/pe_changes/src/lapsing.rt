@@ -55,6 +55,7 @@ fn gather_lapses<D: Governed, L: Ledger>(
 ) -> Result<Vec<Change>, AllocError>
     ensures list { IfOk result (λ changes. AreLapses to (is_silent D.doc_no D.blocks_feature frames.now.entries) statuses.now.live store.old.entries store.new.entries changes.items) }
     ensures dismissals { OnOk result (store.new.dismissals ≡ store.old.dismissals) }
+    ensures cost { OnOk result (steps.new + length store.new.entries ≤ steps.old + length store.old.entries + length statuses.now.live) }
 {
     same_pairs_are_one();
     let mut changes = Vec::new(alloc);
@@ -75,7 +76,8 @@ fn gather_lapses<D: Governed, L: Ledger>(
 /// the clock up to that time, by millisecond and by the number of the status. How often pairs were
 /// dismissed stays.
 /// `AllocError` where memory wants; entries may then be gone without their changes.
-/// It costs a logarithm of the entries and one walk for each entry that ends, and one sort of the changes.
+/// It costs a logarithm of the entries and one tick for each entry that ends, at most one tick for each live
+/// status, and one sort of the changes.
 pub fn lapse<D: Governed, L: Ledger>(
     alloc: Global,
     store: &mut Store,
@@ -86,6 +88,7 @@ pub fn lapse<D: Governed, L: Ledger>(
 ) -> Result<Vec<Change>, AllocError>
     ensures changes { (T : RepliedHistory) → clock T ≤ to → IsStore T (clock T) store.old → IsStatuses T statuses.now → AreGoverned T D.doc_no D.blocks_feature frames.now.entries statuses.now.live → IfOk result (λ changes. changes.items ≡ changes_before T to) }
     ensures stands { (T : RepliedHistory) → clock T ≤ to → IsStore T (clock T) store.old → OnOk result (IsStore T to store.new) }
+    ensures cost { OnOk result (steps.new + length store.new.entries ≤ steps.old + length store.old.entries + length statuses.now.live) }
 {
     history_laws();
     same_pairs_are_one();

@@ -10,14 +10,14 @@ use Rattle.pe_changes.proofs.Governing.{silent-blocked}
 use Rattle.pe_changes.proofs.Stored.{stored-is}
 use Rattle.pe_changes.proofs.setting.changes_of_setting.Goals as goal
 
-pub returns : goal.returns
-returns g c T s x made pair after lasts is stand governed =
+pub returns-clause-changes : goal.returns-clause-changes
+returns-clause-changes g c T s x made pair after lasts is stand governed =
     let silent = is_silent g.D.Numbered.doc_no g.D.Governed.blocks_feature c.args.frames.now.entries in
     let live = c.args.statuses.now.live in
     let laws = c.history_laws.ensures in
     c.in_ok-append_changes.ensures.list
     ∙ ap (λ (xs : List Change). xs ++ flat_map (change_from silent c.args.now c.stored_or_prompt-before.result c.args.after) (later_under (c.args.feature, c.args.key.now) None live)) c.new-changes.ensures.items
     ∙ ap (λ (b : State). flat_map (change_from silent c.args.now b c.args.after) (later_under (c.args.feature, c.args.key.now) None live))
-    (c.stored_or_prompt-before.ensures ∙ ap (λ (o : Option State). unwrap_or o state.Prompt) (stored-is laws T c.args.now c.args.store.now (c.args.feature, c.args.key.now) is))
+    (c.stored_or_prompt-before.ensures.value ∙ ap (λ (o : Option State). unwrap_or o state.Prompt) (stored-is laws T c.args.now c.args.store.now (c.args.feature, c.args.key.now) is))
     ∙ sym (set-at laws c.same_pairs_are_one.ensures s T c.args.now silent live x (c.args.feature, c.args.key.now) c.args.after pair after made lasts stand.live stand.paired
     (silent-blocked T g.D.Numbered.doc_no g.D.Governed.blocks_feature c.args.frames.now.entries live governed))
