@@ -12,3 +12,4 @@ pub mod Stores
 pub mod End
 pub mod Registered
 pub mod Costs
+pub mod Counted

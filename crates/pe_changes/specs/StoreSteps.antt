@@ -1,18 +1,20 @@
 -- For what a store stands after a step.
 -- Permissions, "permission store", "lifetime"; the embargo is this project's own.
-use Rattle.std.specs.Prelude.{◌≡◌, ◌≢◌, ℕ, ◌+◌, false, ◌&&◌, IsTrue, [], ◌∷◌, Option, None, Some, is_some, option_map, if◌then◌else◌}
+use Rattle.std.specs.Prelude.{◌≡◌, ◌≢◌, ℕ, ◌+◌, false, ◌&&◌, IsTrue, [], ◌∷◌, length, Option, None, Some, is_some, option_map, if◌then◌else◌}
 use Rattle.pe_store.specs.declared.entry.Entry.{Entry}
 use Rattle.pe_store.specs.Entries as store
-use Rattle.pe_store.specs.Entries.{StoreValue, dismissals_of, entry_of}
+use Rattle.pe_store.specs.Entries.{StoreValue, dismissals_of, entry_of, IsOnePerPair}
 use Rattle.pe_store.specs.Pairs.{Pair, is_same_pair}
 use Rattle.pe_store.specs.Places.{has_life, is_page_of}
 use Rattle.pe_events.specs.declared.event.Event.TheVariants as event
 use Rattle.pe_events.specs.declared.event.EventLife.{EventLife}
 use Rattle.pe_events.specs.declared.event.Outcome.TheVariants as outcome
-use Rattle.pe_rules.specs.History.{Step, RepliedHistory, History}
+use Rattle.pe_rules.specs.History.{Step, RepliedHistory, History, clock}
+use Rattle.pe_rules.specs.Numbering.{parent_frame}
 use Rattle.pe_rules.specs.Embedders.{chain}
 use Rattle.pe_rules.specs.Current.{ends, document_in}
 use Rattle.pe_rules.specs.Settings.{Setting, prompt_pair, setting_by, holds, counts, embargo_for, standing_of, stored_state}
+use Rattle.pe_rules.specs.Causes.{entries}
 use Rattle.pe_rules.specs.Replies.{replied, is_regular}
 use Rattle.pe_laws.specs.EffectsLaws.{effects_of}
 use Rattle.pe_changes.specs.Parts.{entry_by, IsTopLife, IsStore}
@@ -43,6 +45,11 @@ pub record StoreSteps : Type 0 where
   -- a dismissal counts, and is an embargo, where the definitions say so
   pub counts : (T : RepliedHistory) (now : ℕ) (value : StoreValue) (pair : Pair) → IsStore T now value → store.counts value pair ≡ counts T now (standing_of T pair)
   pub embargo : (T : RepliedHistory) (now : ℕ) (value : StoreValue) (pair : Pair) → IsStore T now value → store.completes_embargo value pair ≡ is_some (embargo_for now T pair)
+  -- it has as many entries as there are
+  pub counted : (T : RepliedHistory) (value : StoreValue) → IsStore T (clock T) value → IsOnePerPair value.entries → length value.entries ≡ length (entries T)
+  -- the document that a top frame shows is the top one of its page
+  pub top : (duration : ℕ) (H : History) (f d : ℕ) → IsTrue (is_regular duration H) → document_in (replied duration H) f ≡ Some d → parent_frame (replied duration H) f ≡ None
+      → chain (replied duration H) d ≡ d ∷ []
   -- a step that sets nothing, dismisses nothing and ends no document leaves it
   pub quiet : (s : Step) (T : RepliedHistory) (now : ℕ) (value : StoreValue) → (effects_of s).sets ≡ false → (effects_of s).dismisses ≡ false → (effects_of s).ends_documents ≡ false
       → IsStore T now value → IsStore (s ∷ T) now value

@@ -1,3 +1,4 @@
+use Rattle.pe_changes.proofs.Counted.{counted, top}
 use Rattle.pe_changes.proofs.Stored.{stored-is}
 use Rattle.pe_changes.proofs.Stores.{start, quiet, set, counts-is, embargo-is, dismissed, ended, ended-below}
 use Rattle.pe_changes.proofs.steps.store_steps.Goals as goal
@@ -8,6 +9,8 @@ returns c = let laws = c.history_laws.ensures in record {
   stored = stored-is laws;
   counts = counts-is laws;
   embargo = embargo-is laws;
+  counted = counted laws c.same_pairs_are_one.ensures;
+  top = top laws;
   quiet = quiet laws;
   set = set laws c.same_pairs_are_one.ensures;
   dismissed = dismissed laws c.same_pairs_are_one.ensures;
