@@ -14,3 +14,6 @@ pub use governed::Governed;
 pub use lapsing::lapse;
 pub use setting::changes_of_setting;
 pub use steps::{status_steps, store_steps};
+
+#[cfg(test)]
+mod tests;
