@@ -1,5 +1,5 @@
 -- The changes that a step brings by itself, by what is stored before and after it.
-use Rattle.std.proofs.Common.{◌≡◌, ◌≢◌, ℕ, suc, ◌≤◌, Bool, true, false, not, List, [], ◌∷◌, length, map, filter, flat_map, Option, Some, None, unwrap_or, option_map, option_to_list, refl, sym, ◌∙◌, ap, arith, cond, subst, true≢false}
+use Rattle.std.proofs.Common.{◌≡◌, ℕ, ◌≤◌, Bool, true, false, not, List, [], ◌∷◌, length, map, filter, flat_map, Option, Some, None, unwrap_or, option_map, option_to_list, refl, sym, ◌∙◌, ap, arith, cond, subst, true≢false}
 use Rattle.std.specs.Bool.{Decides}
 use Rattle.std.proofs.lemmas.List.Folds.{flat_map-map}
 use Rattle.pe_base.specs.declared.state.State.{State}

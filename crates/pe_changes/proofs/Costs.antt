@@ -1,5 +1,5 @@
 -- How many statuses the walks over several pairs visit: each at most once.
-use Rattle.std.proofs.Common.{◌≡◌, ℕ, suc, ◌+◌, ◌≤◌, Bool, true, false, not, List, [], ◌∷◌, ◌++◌, length, length-append, filter, flat_map, Option, None, Some, is_some, refl, sym, ◌∙◌, ap, arith, cond, true≢false}
+use Rattle.std.proofs.Common.{◌≡◌, suc, ◌+◌, ◌≤◌, Bool, true, false, not, List, [], ◌∷◌, ◌++◌, length, filter, flat_map, Option, None, Some, is_some, refl, sym, ◌∙◌, ap, arith, cond, true≢false}
 use Rattle.std.specs.Bool.{Decides}
 use Rattle.pe_store.specs.declared.entry.Entry.{Entry}
 use Rattle.pe_store.specs.Entries as store
@@ -10,7 +10,6 @@ use Rattle.pe_status.specs.Registry.{pair_of, is_under, later_under}
 use Rattle.pe_store.specs.Pages.{is_listed}
 use Rattle.pe_changes.specs.Bags.{count}
 use Rattle.pe_changes.specs.Gathered.{statuses_under}
-use Rattle.pe_changes.proofs.Counts.{count-append}
 use Rattle.pe_changes.proofs.End.{ended-bag}
 use Rattle.pe_changes.proofs.Lapses.{all-under}
 

@@ -1,5 +1,5 @@
 -- A store that stands for steps has as many entries as there are.
-use Rattle.std.proofs.Common.{◌≡◌, ℕ, suc, ◌+◌, Bool, true, false, List, [], ◌∷◌, ◌++◌, length, map, filter, Option, Some, None, is_some, unwrap_or, option_map, option_and_then, refl, sym, ◌∙◌, ap, arith, cond}
+use Rattle.std.proofs.Common.{◌≡◌, ℕ, suc, Bool, true, false, List, [], ◌∷◌, ◌++◌, length, map, filter, Option, Some, None, is_some, unwrap_or, option_map, option_and_then, refl, sym, ◌∙◌, ap, cond}
 use Rattle.std.specs.Bool.{Decides}
 use Rattle.std.specs.List.{find}
 use Rattle.pe_store.specs.declared.entry.Entry.{Entry}
@@ -9,7 +9,7 @@ use Rattle.pe_rules.specs.History.{RepliedHistory, History, clock}
 use Rattle.pe_rules.specs.Numbering.{parent_frame}
 use Rattle.pe_rules.specs.Embedders.{chain}
 use Rattle.pe_rules.specs.Current.{document_in}
-use Rattle.pe_rules.specs.Settings.{stored_state, has_entry}
+use Rattle.pe_rules.specs.Settings.{has_entry}
 use Rattle.pe_rules.specs.Causes.{entries}
 use Rattle.pe_rules.specs.Replies.{replied, is_regular}
 use Rattle.pe_laws.specs.HistoryLaws.{HistoryLaws}

@@ -1,5 +1,5 @@
 -- The changes that the end of a top document brings.
-use Rattle.std.proofs.Common.{◌≡◌, ◌≢◌, ℕ, ◌+◌, ◌<◌, ◌≤◌, Bool, true, false, not, ◌||◌, List, [], ◌∷◌, ◌++◌, length, map, filter, flat_map, Option, Some, None, is_some, unwrap_or, option_map, option_and_then, option_to_list, refl, sym, ◌∙◌, ap, arith, cond, subst, append-nil, length-append, take, get_or, true≢false}
+use Rattle.std.proofs.Common.{◌≡◌, ◌≢◌, ℕ, ◌+◌, ◌<◌, ◌≤◌, Bool, true, false, not, ◌||◌, List, [], ◌∷◌, ◌++◌, length, flat_map, Option, Some, None, option_map, option_and_then, refl, sym, ◌∙◌, ap, arith, cond, subst, append-nil, length-append, take, get_or, true≢false}
 use Rattle.std.specs.Bool.{Decides}
 use Rattle.std.specs.List.Sorted.{IsPermutation}
 use Rattle.std.proofs.lemmas.Bool.Decides.{nat_tests}
@@ -8,7 +8,6 @@ use Rattle.std.proofs.lemmas.List.Concat.{flat_map-append}
 use Rattle.pe_base.specs.declared.state.State.{State}
 use Rattle.pe_base.specs.declared.state.State.TheVariants as state
 use Rattle.pe_events.specs.declared.answer.Change.{Change}
-use Rattle.pe_store.specs.declared.entry.Entry.{Entry}
 use Rattle.pe_store.specs.declared.key.Life.{Life}
 use Rattle.pe_store.specs.declared.key.Life.TheVariants as life
 use Rattle.pe_store.specs.Entries.{StoreValue, entry_of}
@@ -20,7 +19,7 @@ use Rattle.pe_status.specs.Registry.{Registry, pair_of, is_under, later_under}
 use Rattle.pe_rules.specs.History.{Step, RepliedHistory, History, some_if}
 use Rattle.pe_rules.specs.Current.{ends, document_in}
 use Rattle.pe_rules.specs.Settings.{Setting, pair_for, setting_by, stored_state}
-use Rattle.pe_rules.specs.Statuses.{Status, live_statuses}
+use Rattle.pe_rules.specs.Statuses.{live_statuses}
 use Rattle.pe_rules.specs.Changes.{is_same_state, change_between, changes_after}
 use Rattle.pe_rules.specs.Replies.{replied, is_regular}
 use Rattle.pe_laws.specs.HistoryLaws.{HistoryLaws}
@@ -29,13 +28,13 @@ use Rattle.pe_laws.specs.PermissionStateLaws.{is_blocked}
 use Rattle.pe_laws.specs.SettingsLaws.{leaves_life, in_force}
 use Rattle.pe_laws.specs.StatusesLaws.{Each}
 use Rattle.pe_changes.specs.Bags.{count, IsSameBag}
-use Rattle.pe_changes.specs.Gathered.{change_to, change_from, changes_under, statuses_under}
-use Rattle.pe_changes.specs.Parts.{entry_by, IsStore, status_of_row, IsStatuses}
+use Rattle.pe_changes.specs.Gathered.{change_to, changes_under, statuses_under}
+use Rattle.pe_changes.specs.Parts.{entry_by, IsStore, IsStatuses}
 use Rattle.pe_changes.proofs.After.{change_stored, ArePaired, same-stored, from-stored, live-before, after-is}
 use Rattle.pe_changes.proofs.Before.{AreBlocked}
 use Rattle.pe_changes.proofs.Counts.{count-append, count-split, count-permutation, flat-none, flat-same, each-both, each-weaker, each-all}
 use Rattle.pe_changes.proofs.Lapses.{all-under}
-use Rattle.pe_changes.proofs.Leaving.{IsEnd, end-is, left-by, entry-force, entry-none}
+use Rattle.pe_changes.proofs.Leaving.{end-is, left-by, entry-force, entry-none}
 use Rattle.pe_changes.proofs.Order.{IsStrict, IsWeak, ordered-is}
 use Rattle.pe_changes.proofs.Ordered.{comes_before, is_same_change, same-change-decides, strict-rising, changes-rise}
 use Rattle.pe_changes.proofs.Stored.{in-force-is, decides, unset-in-force}

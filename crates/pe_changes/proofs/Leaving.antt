@@ -1,7 +1,6 @@
 -- What the end of the document of a frame leaves of the settings in force.
-use Rattle.std.proofs.Common.{◌≡◌, ◌≢◌, ℕ, Bool, true, false, not, ◌||◌, ◌==◌, List, [], ◌∷◌, map, Option, Some, None, option_map, option_and_then, refl, sym, ◌∙◌, ap, arith, cond}
+use Rattle.std.proofs.Common.{◌≡◌, ℕ, Bool, true, false, not, ◌||◌, ◌==◌, [], ◌∷◌, Option, Some, None, option_map, refl, sym, ◌∙◌, ap, arith}
 use Rattle.std.proofs.lemmas.Bool.Decides.{nat_tests}
-use Rattle.pe_store.specs.declared.entry.Entry.{Entry}
 use Rattle.pe_store.specs.declared.key.Life.{Life}
 use Rattle.pe_store.specs.declared.key.Life.TheVariants as life
 use Rattle.pe_store.specs.Entries.{StoreValue, entry_of}
@@ -13,7 +12,7 @@ use Rattle.pe_rules.specs.History.{StepAnswer, Step, RepliedHistory, History}
 use Rattle.pe_rules.specs.Making.{frame_of}
 use Rattle.pe_rules.specs.Embedders.{chain}
 use Rattle.pe_rules.specs.Current.{ends, frames_above, is_current, document_in}
-use Rattle.pe_rules.specs.Settings.{Setting, setting_by, holds}
+use Rattle.pe_rules.specs.Settings.{Setting, holds}
 use Rattle.pe_rules.specs.Replies.{replied, is_regular}
 use Rattle.pe_laws.specs.HistoryLaws.{HistoryLaws}
 use Rattle.pe_laws.specs.Effects.{effects}

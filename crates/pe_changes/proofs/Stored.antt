@@ -1,20 +1,17 @@
 -- What a store says of a pair is what is stored for it.
-use Rattle.std.proofs.Common.{◌≡◌, ◌≢◌, ℕ, suc, ◌<◌, ◌≤◌, Bool, true, false, ◌||◌, ◌==◌, List, [], ◌∷◌, length, Option, Some, None, option_map, option_and_then, refl, sym, ◌∙◌, ap, arith, subst}
+use Rattle.std.proofs.Common.{◌≡◌, ◌≢◌, ℕ, suc, Bool, true, false, ◌||◌, ◌==◌, List, [], ◌∷◌, length, Option, Some, None, option_map, option_and_then, refl, sym, ◌∙◌, ap, arith}
 use Rattle.std.specs.Option.{option_or}
 use Rattle.std.proofs.lemmas.Bool.Decides.{nat_tests}
-use Rattle.pe_base.specs.declared.state.State.{State}
 use Rattle.pe_base.specs.declared.state.State.TheVariants as state
 use Rattle.pe_store.specs.declared.entry.Entry.{Entry}
 use Rattle.pe_store.specs.declared.key.Life.{Life}
 use Rattle.pe_store.specs.declared.key.Life.TheVariants as life
-use Rattle.pe_store.specs.Entries.{StoreValue, entry_of}
+use Rattle.pe_store.specs.Entries.{StoreValue}
 use Rattle.pe_store.specs.Pairs.{Pair, is_same_pair}
 use Rattle.pe_rules.specs.History.{Step, RepliedHistory, some_if}
-use Rattle.pe_rules.specs.Embedders.{chain}
 use Rattle.pe_rules.specs.Current.{frames_above}
 use Rattle.pe_rules.specs.Activation.{is_one_of}
 use Rattle.pe_rules.specs.Settings.{Setting, setting_by, holds, last_setting, standing_of, stored_state}
-use Rattle.pe_rules.specs.Changes.{is_same_state}
 use Rattle.pe_laws.specs.HistoryLaws.{HistoryLaws}
 use Rattle.pe_laws.specs.SettingsLaws.{leaves_life, in_force}
 use Rattle.pe_laws.specs.EffectsLaws.{effects_of}

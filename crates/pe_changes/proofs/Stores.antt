@@ -1,5 +1,5 @@
 -- For what a store stands after a step.
-use Rattle.std.proofs.Common.{◌≡◌, ◌≢◌, ℕ, suc, ◌+◌, ◌<◌, Bool, true, false, not, ◌&&◌, nat_le, nat_lt, List, [], ◌∷◌, Option, Some, None, is_some, unwrap_or, option_map, option_and_then, refl, sym, ◌∙◌, ap, arith, cond, subst, true≢false}
+use Rattle.std.proofs.Common.{◌≡◌, ◌≢◌, ℕ, ◌+◌, ◌<◌, Bool, true, false, not, ◌&&◌, nat_le, List, [], ◌∷◌, Option, Some, None, is_some, option_map, option_and_then, refl, sym, ◌∙◌, ap, arith, cond, subst, true≢false}
 use Rattle.std.specs.Bool.{Decides}
 use Rattle.std.proofs.lemmas.Bool.Decides.{nat_tests}
 use Rattle.pe_base.specs.declared.limits.TheConstants.{EMBARGO_DISMISSALS, EMBARGO_SPAN}
@@ -12,24 +12,22 @@ use Rattle.pe_store.specs.Entries as store
 use Rattle.pe_store.specs.Entries.{StoreValue, dismissals_of, entry_of}
 use Rattle.pe_store.specs.Pairs.{Pair, is_same_pair}
 use Rattle.pe_store.specs.Places.{has_life, is_page_of}
-use Rattle.pe_events.specs.declared.event.Event.{Event}
 use Rattle.pe_events.specs.declared.event.Event.TheVariants as event
 use Rattle.pe_events.specs.declared.event.EventLife.{EventLife}
 use Rattle.pe_events.specs.declared.event.Outcome.TheVariants as outcome
 use Rattle.pe_rules.specs.History.{Step, RepliedHistory, History, some_if}
 use Rattle.pe_rules.specs.Embedders.{chain}
 use Rattle.pe_rules.specs.Current.{ends, document_in}
-use Rattle.pe_rules.specs.Settings.{Setting, Standing, prompt_pair, setting_by, holds, is_undecided, dismissed_pair, counts, embargo, embargo_for, completes_embargo, is_pair, standing_of, last_setting, dismissals, stored_by, stored_state}
+use Rattle.pe_rules.specs.Settings.{Setting, Standing, prompt_pair, setting_by, holds, is_undecided, dismissed_pair, counts, embargo, embargo_for, completes_embargo, is_pair, standing_of, last_setting, dismissals}
 use Rattle.pe_rules.specs.Replies.{replied, is_regular}
 use Rattle.pe_laws.specs.HistoryLaws.{HistoryLaws}
 use Rattle.pe_laws.specs.Effects.{effects}
 use Rattle.pe_laws.specs.EffectsLaws.{effects_of}
-use Rattle.pe_laws.specs.SettingsLaws.{leaves_life, in_force, setting_of, is_dismissed}
-use Rattle.pe_changes.specs.Gathered.{state_in}
+use Rattle.pe_laws.specs.SettingsLaws.{leaves_life, in_force, is_dismissed}
 use Rattle.pe_changes.specs.Parts.{entry_by, entry_in, IsTopLife, IsStore}
 use Rattle.pe_changes.specs.StoreSteps.{IsSet, IsDismissed, IsEnded}
 use Rattle.pe_changes.proofs.Before.{same-dismissals}
-use Rattle.pe_changes.proofs.Leaving.{IsEnd, end-is, left-by, entry-force, entry-none}
+use Rattle.pe_changes.proofs.Leaving.{end-is, left-by, entry-force, entry-none}
 use Rattle.pe_changes.proofs.Stored.{stored-is, top-older, unset-in-force, quiet-in-force, other-in-force, set-in-force}
 
 pub start : (value : StoreValue) → value.entries ≡ [] → ((pair : Pair) → dismissals_of value pair ≡ 0) → IsStore [] 0 value

@@ -1,6 +1,6 @@
 -- The changes that entries of a store bring to the statuses of their pairs.
 -- Permissions, "PermissionStatus update steps".
-use Rattle.std.specs.Prelude.{◌≡◌, ◌⊎◌, ℕ, ◌<◌, Bool, true, false, nat_lt, List, [], ◌∷◌, ◌++◌, length, flat_map, Option, None, Some, is_some, option_map, option_and_then, if◌then◌else◌}
+use Rattle.std.specs.Prelude.{◌≡◌, ◌⊎◌, ℕ, Bool, true, nat_lt, List, [], ◌∷◌, flat_map, Option, None, Some, is_some, option_map, option_and_then, if◌then◌else◌}
 use Rattle.pe_base.specs.declared.state.State.{State}
 use Rattle.pe_base.specs.declared.state.State.TheVariants as state
 use Rattle.pe_events.specs.declared.answer.Change.{Change}

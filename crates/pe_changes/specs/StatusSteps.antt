@@ -1,7 +1,6 @@
 -- For what the statuses stand after a step.
 -- Permissions, the interface PermissionStatus.
-use Rattle.std.specs.Prelude.{◌≡◌, ℕ, Bool, false, IsTrue, List, [], ◌∷◌, ◌++◌, length, filter, Some}
-use Rattle.pe_store.specs.Pairs.{Pair}
+use Rattle.std.specs.Prelude.{◌≡◌, ℕ, Bool, false, IsTrue, [], ◌∷◌, ◌++◌, length, filter, Some}
 use Rattle.pe_events.specs.declared.event.Event.TheVariants as event
 use Rattle.pe_status.specs.declared.registered.Registered.{Registered}
 use Rattle.pe_status.specs.Registry.{Registry, pair_of, without, count_of_page}

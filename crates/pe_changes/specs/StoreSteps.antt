@@ -1,6 +1,6 @@
 -- For what a store stands after a step.
 -- Permissions, "permission store", "lifetime"; the embargo is this project's own.
-use Rattle.std.specs.Prelude.{◌≡◌, ◌≢◌, ℕ, ◌+◌, false, ◌&&◌, IsTrue, [], ◌∷◌, length, Option, None, Some, is_some, option_map, if◌then◌else◌}
+use Rattle.std.specs.Prelude.{◌≡◌, ◌≢◌, ℕ, ◌+◌, false, ◌&&◌, IsTrue, [], ◌∷◌, length, None, Some, is_some, option_map, if◌then◌else◌}
 use Rattle.pe_store.specs.declared.entry.Entry.{Entry}
 use Rattle.pe_store.specs.Entries as store
 use Rattle.pe_store.specs.Entries.{StoreValue, dismissals_of, entry_of, IsOnePerPair}

@@ -1,7 +1,6 @@
-use Rattle.std.proofs.Common.{◌≡◌, ◌≤◌, ℕ, None, refl, sym, ◌∙◌, ap, subst, arith}
+use Rattle.std.proofs.Common.{◌≤◌, ℕ, None, refl, sym, ◌∙◌, ap, subst, arith}
 use Rattle.pe_store.specs.declared.key.Life.TheVariants as life
 use Rattle.pe_store.specs.Due.{IsDue}
-use Rattle.pe_changes.specs.Gathered.{AreLapses}
 use Rattle.pe_changes.specs.Parts.{is_silent}
 use Rattle.pe_changes.proofs.Costs.{is_without, count-most, taken-more}
 use Rattle.pe_changes.proofs.Lapses.{lapses-none, lapses-more, lapses-all}

@@ -1,4 +1,4 @@
-use Rattle.std.proofs.Common.{◌≡◌, ◌++◌, None, List, Option, flat_map, unwrap_or, sym, ◌∙◌, ap}
+use Rattle.std.proofs.Common.{◌++◌, None, List, Option, flat_map, unwrap_or, sym, ◌∙◌, ap}
 use Rattle.pe_base.specs.declared.state.State.{State}
 use Rattle.pe_base.specs.declared.state.State.TheVariants as state
 use Rattle.pe_events.specs.declared.answer.Change.{Change}

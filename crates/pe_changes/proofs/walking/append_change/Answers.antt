@@ -1,4 +1,4 @@
-use Rattle.std.proofs.Common.{◌≡◌, ◌++◌, sym, ◌∙◌}
+use Rattle.std.proofs.Common.{sym, ◌∙◌}
 use Rattle.pe_changes.specs.Parts.{is_silent}
 use Rattle.pe_changes.proofs.Turns.{to-silent, to-heard}
 use Rattle.pe_changes.proofs.walking.append_change.Goals as goal

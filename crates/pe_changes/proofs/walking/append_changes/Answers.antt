@@ -1,4 +1,4 @@
-use Rattle.std.proofs.Common.{◌≡◌, ◌++◌, None, List, flat_map, sym, ◌∙◌, ap, append-nil}
+use Rattle.std.proofs.Common.{◌++◌, None, List, flat_map, sym, ◌∙◌, ap, append-nil}
 use Rattle.pe_events.specs.declared.answer.Change.{Change}
 use Rattle.pe_status.specs.Registry.{later_under}
 use Rattle.pe_status.specs.declared.registered.Registered.{Registered}

@@ -1,4 +1,4 @@
-use Rattle.std.proofs.Common.{◌≡◌, ◌++◌, List, flat_map, length, sym, ◌∙◌, ap, arith}
+use Rattle.std.proofs.Common.{◌++◌, List, flat_map, length, sym, ◌∙◌, ap, arith}
 use Rattle.pe_status.specs.declared.registered.Registered.{Registered}
 use Rattle.pe_changes.specs.Gathered.{change_to}
 use Rattle.pe_changes.specs.Parts.{is_silent}
