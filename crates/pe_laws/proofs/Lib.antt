@@ -39,3 +39,4 @@ pub mod Messages
 pub mod Delegated
 pub mod AttributesBeyond
 pub mod Activated
+pub mod LiveAfter

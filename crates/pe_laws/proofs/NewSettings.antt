@@ -18,9 +18,10 @@ use Rattle.pe_events.specs.declared.event.EventLife.{EventLife}
 use Rattle.pe_events.specs.declared.event.EventLife.TheVariants as given
 use Rattle.pe_events.specs.declared.event.Outcome.{Outcome}
 use Rattle.pe_events.specs.declared.event.Outcome.TheVariants as outcome
-use Rattle.pe_rules.specs.History.{Step, RepliedHistory, some_if}
+use Rattle.pe_rules.specs.History.{StepAnswer, Step, RepliedHistory, some_if}
 use Rattle.pe_rules.specs.Current.{ends, frames_above, is_current, document_in}
 use Rattle.pe_rules.specs.Settings.{Setting, prompt_pair, prompt_page, word_origin, key_of_words, life_for, life_of_answer, stored_by_outcome, setting_named, setting_by, holds, counts, completes_embargo, embargo, embargo_for, dismissed_pair, standing_of}
+use Rattle.pe_laws.specs.Effects.{effects}
 use Rattle.pe_laws.proofs.Lists.{both}
 use Rattle.pe_laws.proofs.Current.{current-older, current-within}
 use Rattle.pe_laws.proofs.Lives.{not-page, life-current}
@@ -119,6 +120,18 @@ unfolding setting_by setting_named
 ends-none time (event.Navigate frame url header) T x frames h = cc
 ends-none time (event.Close frame) T x frames h = cc
 ends-none time e T x frames h = refl
+
+-- nor does it make a status, or drop one
+alone : (time : ℕ) (e : Event) (item : StepAnswer) (T : RepliedHistory) (x : Setting) → setting_by time e T ≡ Some x
+    → ((effects e item).makes_status ≡ false) × ((effects e item).drops_status ≡ false) × ((effects e item).ends_documents ≡ false)
+unfolding setting_by setting_named
+alone time (event.SetState feature first second state span) item T x h = (refl, refl, refl)
+alone time (event.Answered prompt out given) item T x h = (refl, refl, refl)
+alone time e item T x h = cc
+
+pub set-alone : (s : Step) (T : RepliedHistory) (x : Setting) → setting_by s.time s.event T ≡ Some x
+    → ((effects s.event s.item).makes_status ≡ false) × ((effects s.event s.item).drops_status ≡ false) × ((effects s.event s.item).ends_documents ≡ false)
+set-alone s T x h = alone s.time s.event s.item T x h
 
 -- the end of a life, or another time
 abbrev end_or : Life → ℕ → ℕ

@@ -13,7 +13,7 @@ use Rattle.pe_events.specs.declared.event.Event.{Event}
 use Rattle.pe_events.specs.declared.event.Event.TheVariants as event
 use Rattle.pe_rules.specs.History.{Step, RepliedHistory, some_if, all_answers}
 use Rattle.pe_rules.specs.Current.{document_in}
-use Rattle.pe_rules.specs.Settings.{Setting, pair_for, last_setting, holds, stored_by, stored_state}
+use Rattle.pe_rules.specs.Settings.{Setting, pair_for, setting_by, last_setting, holds, stored_by, stored_state}
 use Rattle.pe_rules.specs.PermissionState.{permission_state}
 use Rattle.pe_rules.specs.Statuses.{Status, status_by, is_live_status, live_statuses}
 use Rattle.pe_rules.specs.Changes.{is_same_state, change_of, change_at, change_between, is_live_in, changes_after}
@@ -22,6 +22,8 @@ use Rattle.pe_laws.specs.Effects.{effects}
 use Rattle.pe_laws.proofs.Lists.{then-same}
 use Rattle.pe_laws.proofs.Current.{document-in-below}
 use Rattle.pe_laws.proofs.Lapses.{changes-at-lapse, same-state}
+use Rattle.pe_laws.proofs.Settings.{last-setting-step}
+use Rattle.pe_laws.proofs.Lives.{stored-older}
 use Rattle.pe_laws.specs.PermissionStateLaws.{is_blocked, state_from}
 use Rattle.pe_laws.proofs.States.{blocked-older, state-blocked, state-of-pair, state-older, state-same-entry, state-by-entry, state-stays}
 
@@ -188,3 +190,9 @@ module _ (pairs : (p q : Pair) → Decides (is_same_pair p q) (p ≡ q)) where
   none-after s T now sets dismisses h =
       none-of (length T) (change_between T (s ∷ T) now) (filter (is_live_in (s ∷ T)) (live_statuses T)) (filter-within (length T) (is_live_in (s ∷ T)) (live_statuses T) (live-within T))
       (λ x le. none-between s T now x le sets dismisses h)
+
+  pub none-after-unset : (s : Step) (T : RepliedHistory) (now : ℕ) → setting_by s.time s.event T ≡ None → (effects s.event s.item).ends_documents ≡ false → changes_after T (s ∷ T) now ≡ []
+  unfolding changes_after
+  none-after-unset s T now none h =
+      none-of (length T) (change_between T (s ∷ T) now) (filter (is_live_in (s ∷ T)) (live_statuses T)) (filter-within (length T) (is_live_in (s ∷ T)) (live_statuses T) (live-within T))
+      (λ x le. none-unless-stored s T now x le (λ p is. stored-older pairs s T now p h (last-setting-step pairs s T p ∙ rw none refl)))

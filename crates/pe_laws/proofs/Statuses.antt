@@ -162,7 +162,7 @@ no-status : (e : Event) (item : StepAnswer) → (effects e item).makes_status �
 no-status (event.Query frame feature) item h = h
 no-status e item h = refl
 
-no-status-by : (e : Event) (item : StepAnswer) (T : RepliedHistory) (k : ℕ) → (effects e item).makes_status ≡ false → status_by e T k ≡ None
+pub no-status-by : (e : Event) (item : StepAnswer) (T : RepliedHistory) (k : ℕ) → (effects e item).makes_status ≡ false → status_by e T k ≡ None
 no-status-by (event.Query frame feature) item T k h = cc
 no-status-by e item T k h = refl
 
@@ -200,7 +200,7 @@ status-stays s T k h = by_place (k == suc (length T)) refl
 
 -- ---- the live statuses after a step
 
-live-unmade : (s : Step) (T : RepliedHistory) → status_by s.event T (suc (length T)) ≡ None → live_statuses (s ∷ T) ≡ filter (leaves s T) (live_statuses T)
+pub live-unmade : (s : Step) (T : RepliedHistory) → status_by s.event T (suc (length T)) ≡ None → live_statuses (s ∷ T) ≡ filter (leaves s T) (live_statuses T)
 live-unmade s T h = live-step s T ∙ rw h (append-none (filter (leaves s T) (live_statuses T)))
 
 drop-leaves : (s : Step) (T : RepliedHistory) (k : ℕ) (x : Status) → s.event ≡ event.DropStatus k → leaves s T x ≡ not (k == x.number)
@@ -316,7 +316,7 @@ page-same : (s : Step) (T : RepliedHistory) (top : ℕ) (xs : List Status) → E
     → filter (λ x. page (s ∷ T) x.document == top) xs ≡ filter (λ x. page T x.document == top) xs
 page-same s T top xs h = filter-agree (λ x. x.document ≤ length T) (λ x. page (s ∷ T) x.document == top) (λ x. page T x.document == top) xs (λ x le. rw (page-older s T x.document le) refl) h
 
-live-documents : (T : RepliedHistory) → Each (λ x. x.document ≤ length T) (live_statuses T)
+pub live-documents : (T : RepliedHistory) → Each (λ x. x.document ≤ length T) (live_statuses T)
 live-documents T = each-weaker (IsKept T) (λ x. x.document ≤ length T) (live_statuses T) (λ x k. omega (arith, k.1, k.3)) (live-kept T)
 
 page-of-live : (s : Step) (T : RepliedHistory) (top : ℕ) (xs : List Status) → live_statuses (s ∷ T) ≡ xs → Each (λ x. x.document ≤ length T) xs

@@ -1,13 +1,13 @@
 -- Laws of the passing of time: it changes nothing but at the moments at which a life ends.
 -- And of the changes of an event itself: one that sets nothing, dismisses nothing and ends no document brings none.
-use Rattle.std.specs.Prelude.{◌≡◌, ◌≢◌, ℕ, ◌<◌, ◌≤◌, ◌-◌, true, false, IsTrue, [], ◌∷◌, length, Some, None, option_map, flat_map}
+use Rattle.std.specs.Prelude.{◌≡◌, ◌≢◌, ℕ, ◌<◌, ◌≤◌, ◌-◌, true, false, IsTrue, [], ◌∷◌, length, Some, None, option_map, flat_map, option_to_list}
 use Rattle.pe_features.specs.declared.feature.Feature.{Feature}
 use Rattle.pe_store.specs.Pairs.{Pair}
 use Rattle.pe_events.specs.declared.answer.Change.{Change}
 use Rattle.pe_rules.specs.History.{Step, RepliedHistory}
-use Rattle.pe_rules.specs.Settings.{pair_for, last_setting, stored_state}
+use Rattle.pe_rules.specs.Settings.{pair_for, setting_by, last_setting, stored_state}
 use Rattle.pe_rules.specs.PermissionState.{permission_state}
-use Rattle.pe_rules.specs.Statuses.{Status}
+use Rattle.pe_rules.specs.Statuses.{Status, live_statuses}
 use Rattle.pe_rules.specs.Changes.{change_of, change_at, changes_at, changes_before, change_between, changes_after}
 use Rattle.pe_laws.specs.DueMoments.{MayLapse, lapses, due_moments}
 use Rattle.pe_laws.specs.PermissionStateLaws.{is_blocked, state_from}
@@ -47,3 +47,8 @@ pub record ChangesLaws : Type 0 where
   -- the change of an older status by what is stored for its pair before and after
   pub between_of_pair : (s : Step) (T : RepliedHistory) (now : ℕ) (x : Status) (p : Pair) → x.document ≤ length T → pair_for T x.document x.feature ≡ Some p
       → change_between T (s ∷ T) now x ≡ change_of now x (state_from (is_blocked T x.document x.feature) (stored_state T now p)) (state_from (is_blocked T x.document x.feature) (stored_state (s ∷ T) now p))
+  -- one that makes no setting and ends no document brings no change by itself, also where it is a dismissal
+  pub none_after_unset : (s : Step) (T : RepliedHistory) (now : ℕ) → setting_by s.time s.event T ≡ None → (effects s.event s.item).ends_documents ≡ false → changes_after T (s ∷ T) now ≡ []
+  -- the changes that a step brings by itself which makes no status: those of the statuses that are live after it
+  pub after_live : (s : Step) (T : RepliedHistory) (now : ℕ) → (effects s.event s.item).makes_status ≡ false
+      → changes_after T (s ∷ T) now ≡ flat_map (λ x. option_to_list (change_between T (s ∷ T) now x)) (live_statuses (s ∷ T))

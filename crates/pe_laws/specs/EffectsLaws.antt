@@ -8,7 +8,7 @@ use Rattle.pe_rules.specs.History.{Step, RepliedHistory, some_if}
 use Rattle.pe_rules.specs.Numbering.{makes_frame, is_frame, frames_made, documents_made, last_document, parent_frame}
 use Rattle.pe_rules.specs.Making.{making, frame_of}
 use Rattle.pe_rules.specs.Embedders.{chain, top_document, page, page_of_frame, depth}
-use Rattle.pe_rules.specs.Current.{frames_above, is_current, document_in, is_live}
+use Rattle.pe_rules.specs.Current.{ends, frames_above, is_current, document_in, is_live}
 use Rattle.pe_rules.specs.Activation.{activates, consumes, has_sticky, has_transient, stamp_of}
 use Rattle.pe_rules.specs.HistoryActivation.{consumes_history, second_stamp_of, has_history_activation}
 use Rattle.pe_rules.specs.Attributes.{attribute, attributes_of}
@@ -89,3 +89,5 @@ pub record EffectsLaws : Type 0 where
   pub is_live_stays : (s : Step) (T : RepliedHistory) (f : ℕ) → (effects_of s).makes_document ≡ false → (effects_of s).ends_documents ≡ false → is_live (s ∷ T) f ≡ is_live T f
   pub live_pages_stay : (s : Step) (T : RepliedHistory) → (effects_of s).makes_document ≡ false → (effects_of s).ends_documents ≡ false → live_pages (s ∷ T) ≡ live_pages T
   pub live_frames_stay : (s : Step) (T : RepliedHistory) (top : ℕ) → (effects_of s).makes_document ≡ false → (effects_of s).ends_documents ≡ false → live_frames (s ∷ T) top ≡ live_frames T top
+  -- a step that ends no document navigates and closes no frame
+  pub ends_none : (s : Step) (frames : List ℕ) → (effects_of s).ends_documents ≡ false → ends frames s.event ≡ false

@@ -107,3 +107,6 @@ pub record SettingsLaws : Type 0 where
   -- the life of a setting holds when it is made by an event that a line can say, unless it is that of an answer for once without a page
   pub set_holds : (s : Step) (T : RepliedHistory) (x : Setting) → IsTrue (is_fitting s.event) → setting_by s.time s.event T ≡ Some x → x.life ≢ life.Until 0
       → IsTrue (holds (s ∷ T) s.time x.life)
+  -- a step that makes a setting makes no status, drops none and ends no document
+  pub set_alone : (s : Step) (T : RepliedHistory) (x : Setting) → setting_by s.time s.event T ≡ Some x
+      → ((effects s.event s.item).makes_status ≡ false) × ((effects s.event s.item).drops_status ≡ false) × ((effects s.event s.item).ends_documents ≡ false)

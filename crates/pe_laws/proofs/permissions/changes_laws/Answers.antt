@@ -1,5 +1,6 @@
 use Rattle.pe_laws.proofs.Lapses.{changes-at-lapse, walk-due}
-use Rattle.pe_laws.proofs.Spans.{stored-before-lapse, stored-lapsed, stored-between, state-between, change-lapses, change-is, none-between, none-after, none-unless-stored, none-blocked, between-of-pair}
+use Rattle.pe_laws.proofs.Spans.{stored-before-lapse, stored-lapsed, stored-between, state-between, change-lapses, change-is, none-between, none-after, none-unless-stored, none-blocked, between-of-pair, none-after-unset}
+use Rattle.pe_laws.proofs.LiveAfter.{after-live}
 use Rattle.pe_laws.proofs.permissions.changes_laws.Goals as goal
 
 pub returns : goal.returns
@@ -17,4 +18,6 @@ returns c = let pairs = c.same_pairs_are_one.ensures in record {
   none_between_unless_stored = none-unless-stored;
   none_between_blocked = none-blocked;
   between_of_pair = between-of-pair;
+  none_after_unset = none-after-unset pairs;
+  after_live = after-live;
 }

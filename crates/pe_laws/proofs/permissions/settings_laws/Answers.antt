@@ -2,7 +2,7 @@ use Rattle.pe_laws.proofs.Settings.{last-setting-step}
 use Rattle.pe_laws.proofs.Standings.{standing-step, dismissals-step, standing-set, standing-beside, standing-undismissed, dismissals-below, setting-dismissed, embargo-is}
 use Rattle.pe_laws.proofs.Lives.{key-older, pair-older, pair-feature, life-current, life-within, last-within, last-pair, holds-step, holds-older, ended-later, stored-sooner, stored-by-standing, entry-by-standing, stored-older, stored-set}
 use Rattle.pe_laws.proofs.InForce.{stored-in-force, in-force-step, in-force-later}
-use Rattle.pe_laws.proofs.NewSettings.{page-decides, set-holds}
+use Rattle.pe_laws.proofs.NewSettings.{page-decides, set-holds, set-alone}
 use Rattle.pe_laws.proofs.permissions.settings_laws.Goals as goal
 
 pub returns : goal.returns
@@ -36,4 +36,5 @@ returns c = let pairs = c.same_pairs_are_one.ensures in record {
   in_force_later = in-force-later;
   page_life_decides = page-decides;
   set_holds = set-holds;
+  set_alone = set-alone;
 }

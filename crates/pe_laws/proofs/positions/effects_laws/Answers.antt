@@ -1,4 +1,4 @@
-use Rattle.pe_laws.proofs.Effects.{is-frame-stays, frames-made-stay, parent-frame-stays, documents-made-stay, last-document-stays, making-stays, frame-of-stays, chain-stays, top-stays, page-stays, page-of-frame-stays, depth-stays, frames-above-stay, origin-stays, flag-stays, secure-stays, declared-stay, container-stay, links-stay, why-stays, attribute-left, attributes-left, older-current, older-last, older-document-in, older-live, older-page-of-frame, older-depth, live-pages-grow, live-frames-grow, current-stays, document-in-stays, live-stays, live-pages-stay, live-frames-stay}
+use Rattle.pe_laws.proofs.Effects.{no-end, is-frame-stays, frames-made-stay, parent-frame-stays, documents-made-stay, last-document-stays, making-stays, frame-of-stays, chain-stays, top-stays, page-stays, page-of-frame-stays, depth-stays, frames-above-stay, origin-stays, flag-stays, secure-stays, declared-stay, container-stay, links-stay, why-stays, attribute-left, attributes-left, older-current, older-last, older-document-in, older-live, older-page-of-frame, older-depth, live-pages-grow, live-frames-grow, current-stays, document-in-stays, live-stays, live-pages-stay, live-frames-stay}
 use Rattle.pe_laws.proofs.Quiet.{activates-none, consumes-none, stamp-stays, transient-stays, sticky-stays, history-none, second-stays, history-active-stays, dismissed-none, setting-none, standing-stays, last-setting-stays, dismissals-stay}
 use Rattle.pe_laws.proofs.positions.effects_laws.Goals as goal
 
@@ -52,4 +52,5 @@ returns c = record {
   is_live_stays = live-stays;
   live_pages_stay = live-pages-stay;
   live_frames_stay = live-frames-stay;
+  ends_none = λ s frames h. no-end s.event s.item frames h;
 }

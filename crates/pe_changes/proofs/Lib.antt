@@ -1,0 +1,15 @@
+pub mod Counts
+pub mod Order
+pub mod Ordered
+pub mod Lapses
+pub mod Before
+pub mod Turns
+pub mod Governing
+pub mod Stored
+pub mod After
+pub mod Leaving
+pub mod Stores
+pub mod End
+pub mod Registered
+pub mod Costs
+pub mod Counted

@@ -1,0 +1,19 @@
+use Rattle.pe_changes.proofs.Counted.{counted, top}
+use Rattle.pe_changes.proofs.Stored.{stored-is}
+use Rattle.pe_changes.proofs.Stores.{start, quiet, set, counts-is, embargo-is, dismissed, ended, ended-below}
+use Rattle.pe_changes.proofs.steps.store_steps.Goals as goal
+
+pub returns : goal.returns
+returns c = let laws = c.history_laws.ensures in record {
+  start = start;
+  stored = stored-is laws;
+  counts = counts-is laws;
+  embargo = embargo-is laws;
+  counted = counted laws c.same_pairs_are_one.ensures;
+  top = top laws;
+  quiet = quiet laws;
+  set = set laws c.same_pairs_are_one.ensures;
+  dismissed = dismissed laws c.same_pairs_are_one.ensures;
+  ended = ended laws;
+  ended_below = ended-below laws;
+}
