@@ -27,7 +27,8 @@ use Rattle.pe_engine.specs.declared.engine.Made.{Made}
 use Rattle.pe_engine.specs.declared.engine.Made.TheVariants as made
 use Rattle.pe_engine.specs.Objects.{handle_at}
 use Rattle.pe_engine.specs.Rows.{IsRow, IsSettled, kept_attributes}
-use Rattle.pe_engine.specs.Tree.{Each, IsNode, IsTree}
+use Rattle.pe_laws.specs.StatusesLaws.{Each}
+use Rattle.pe_engine.specs.Tree.{IsNode, IsTree}
 use Rattle.pe_engine.specs.Replying.{timed}
 use Rattle.pe_engine.proofs.Accepted.{step_of}
 use Rattle.pe_engine.proofs.Handles.{has-agrees}

@@ -23,7 +23,8 @@ use Rattle.pe_engine.specs.declared.engine.Made.{Made}
 use Rattle.pe_engine.specs.declared.engine.Made.TheVariants as made
 use Rattle.pe_engine.specs.Objects.{handle_in, handle_at, Apart}
 use Rattle.pe_engine.specs.Rows.{top_origin, IsRow, IsSettled, kept_attributes}
-use Rattle.pe_engine.specs.Tree.{Each, IsNode, IsTree}
+use Rattle.pe_laws.specs.StatusesLaws.{Each}
+use Rattle.pe_engine.specs.Tree.{IsNode, IsTree}
 use Rattle.pe_engine.proofs.Lists.{each-kept, each-map, each-all, filter-within, filter-same, map-filter, filter-all, map-left, each-listed}
 use Rattle.pe_engine.proofs.TopDocuments.{top-origin-older}
 use Rattle.pe_engine.proofs.Handles.{Grows, grows, path-grows, has-agrees, handle-last, handle-beside, handle-nothing, same-frame}

@@ -3,7 +3,7 @@ use Rattle.std.proofs.Common.{◌≡◌, ℕ, Bool, true, false, ◌&&◌, ◌||
 use Rattle.std.specs.Prelude.{filter}
 use Rattle.std.specs.List.{list_any}
 use Rattle.std.proofs.lemmas.Bool.Decides.{Decides-eqb}
-use Rattle.pe_engine.specs.Tree.{Each}
+use Rattle.pe_laws.specs.StatusesLaws.{Each}
 
 module _ {A : Type 0} where
   -- of those that pass, with the test

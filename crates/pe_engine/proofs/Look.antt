@@ -17,7 +17,8 @@ use Rattle.pe_laws.specs.TreeLaws as laws
 use Rattle.pe_engine.specs.declared.row.Row.{Row}
 use Rattle.pe_engine.specs.declared.engine.Made.{Made}
 use Rattle.pe_engine.specs.Objects.{handle_at}
-use Rattle.pe_engine.specs.Tree.{Each, IsNode, IsTree}
+use Rattle.pe_laws.specs.StatusesLaws.{Each}
+use Rattle.pe_engine.specs.Tree.{IsNode, IsTree}
 use Rattle.pe_engine.proofs.Lists.{each-all, map-filter, filter-and, any-filter}
 use Rattle.pe_engine.proofs.Handles.{same_handle-Decides, same-frame, same_length}
 

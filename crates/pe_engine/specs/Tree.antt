@@ -1,21 +1,17 @@
 -- What the tree and the list of made things stand for.
 -- This project's own.
 -- The frames of the tree are the live ones, newest first; each stands under the handle of its number, with the handles of the frames of its document's chain.
-use Rattle.std.specs.Prelude.{◌≡◌, ℕ, ◌<◌, List, [], ◌∷◌, map, filter, length, Some, is_some}
+use Rattle.std.specs.Prelude.{◌≡◌, ℕ, ◌<◌, List, map, filter, length, Some, is_some}
 use Rattle.pe_arena.specs.declared.handle.Handle.{Handle}
 use Rattle.pe_frames.specs.Forest.{Entry, Forest, path, mark_of}
 use Rattle.pe_rules.specs.History.{RepliedHistory}
 use Rattle.pe_rules.specs.Numbering.{is_frame, frames_made}
 use Rattle.pe_rules.specs.Current.{frames_above, document_in, is_live}
+use Rattle.pe_laws.specs.StatusesLaws.{Each}
 use Rattle.pe_engine.specs.declared.row.Row.{Row}
 use Rattle.pe_engine.specs.declared.engine.Made.{Made}
 use Rattle.pe_engine.specs.Objects.{handle_at, Apart}
 use Rattle.pe_engine.specs.Rows.{IsRow}
-
--- each of a list
-abbrev pub Each : {A : Type 0} → (A → Type 0) → List A → Type 0
-Each P [] = Unit {0}
-Each P (x ∷ xs) = P x × Each P xs
 
 -- a live frame
 pub record IsNode (T : RepliedHistory) (ms : List Made) (e : Entry Row) : Type 0 where
