@@ -35,7 +35,7 @@ some-mapped : {A B : Type 0} (f : A → B) (o : Option A) → is_some (option_ma
 some-mapped f None = refl
 some-mapped f (Some x) = refl
 
-entry-is : HistoryLaws → (T : RepliedHistory) (value : StoreValue) (p : Pair) → IsStore T (clock T) value → is_some (entry_of value.entries p) ≡ has_entry T p
+pub entry-is : HistoryLaws → (T : RepliedHistory) (value : StoreValue) (p : Pair) → IsStore T (clock T) value → is_some (entry_of value.entries p) ≡ has_entry T p
 unfolding has_entry
 entry-is laws T value p is = sym (some-mapped (λ (e : Entry). e.state) (entry_of value.entries p)) ∙ ap is_some (stored-is laws T (clock T) value p is)
 

@@ -1,5 +1,6 @@
 -- For what the statuses stand after a step.
-use Rattle.std.proofs.Common.{◌≡◌, ◌≢◌, ℕ, suc, ◌≤◌, Bool, true, false, not, ◌||◌, ◌==◌, List, [], ◌∷◌, ◌++◌, length, map, filter, Option, Some, None, option_map, option_and_then, option_to_list, refl, sym, ◌∙◌, ap, arith, cond, subst}
+use Rattle.std.proofs.Common.{◌≡◌, ◌≢◌, ℕ, suc, ◌≤◌, Bool, true, false, not, ◌||◌, ◌==◌, List, [], ◌∷◌, ◌++◌, length, map, filter, Option, Some, None, option_map, option_and_then, option_to_list, refl, sym, ◌∙◌, ap, arith, cond, subst, is_some, ◌<◌, ◌+◌}
+use Rattle.std.specs.List.{find, list_any}
 use Rattle.std.proofs.lemmas.Bool.Decides.{nat_tests}
 use Rattle.std.proofs.lemmas.List.{map-append}
 use Rattle.std.proofs.lemmas.List.Folds.{list_any-append}
@@ -8,7 +9,7 @@ use Rattle.pe_features.specs.Features.{feature_named}
 use Rattle.pe_events.specs.declared.event.Event.{Event}
 use Rattle.pe_events.specs.declared.event.Event.TheVariants as event
 use Rattle.pe_status.specs.declared.registered.Registered.{Registered}
-use Rattle.pe_status.specs.Registry.{Registry, pair_of, was_given, without, count_of_page}
+use Rattle.pe_status.specs.Registry.{Registry, pair_of, status_of, was_given, without, count_of_page, AreBelow}
 use Rattle.pe_rules.specs.History.{StepAnswer, Step, RepliedHistory, History, newest_answer}
 use Rattle.pe_rules.specs.Numbering.{makes_status, is_status}
 use Rattle.pe_rules.specs.Embedders.{page}
@@ -78,7 +79,39 @@ swapped a b = by_test (a == b) refl (b == a) refl
     by_test true is false also = grind (arith, nat_tests)
     by_test false is true also = grind (arith, nat_tests)
 
+row-there : (rs : List Registered) (k : ℕ) → is_some (find (λ r. r.no == k) rs) ≡ list_any (λ (x : Status). x.number == k) (map status_of_row rs)
+row-there [] k = refl
+row-there (r ∷ rs) k = by_test (r.no == k) (row-there rs k)
+  where
+    by_test : (b : Bool) → is_some (find (λ r. r.no == k) rs) ≡ list_any (λ (x : Status). x.number == k) (map status_of_row rs)
+        → is_some (cond b (Some r) (find (λ r. r.no == k) rs)) ≡ (b || list_any (λ (x : Status). x.number == k) (map status_of_row rs))
+    by_test true rest = refl
+    by_test false rest = rest
+
+pub there : (T : RepliedHistory) (statuses : Registry) (k : ℕ) → IsStatuses T statuses → is_some (status_of statuses.live k) ≡ list_any (λ x. x.number == k) (live_statuses T)
+unfolding status_of
+there T statuses k is = row-there statuses.live k ∙ ap (list_any (λ (x : Status). x.number == k)) is.live
+
+below-all : (n : ℕ) (numbers : List ℕ) → ((k : ℕ) → was_given numbers k ≡ true → k < n) → AreBelow n numbers
+below-all n [] h = tt
+below-all n (m ∷ numbers) h = (h m (first (m == m) (same-number m)), below-all n numbers (λ k given. h k (later (m == k) (was_given numbers k) given)))
+  where
+    same-number : (a : ℕ) → (a == a) ≡ true
+    same-number a = grind (arith, nat_tests)
+
+    first : (b : Bool) → b ≡ true → (b || was_given numbers m) ≡ true
+    first true h = refl
+    first false h = cc
+
+    later : (b c : Bool) → c ≡ true → (b || c) ≡ true
+    later true c h = refl
+    later false c h = h
+
 module _ (laws : HistoryLaws) where
+  pub below : (T : RepliedHistory) (statuses : Registry) → IsStatuses T statuses → AreBelow (length T + 1) statuses.given
+  below T statuses is =
+      below-all (length T + 1) statuses.given (λ k given. let within = laws.numbering.status_within T k (sym (is.given k) ∙ given) in omega (arith, within.1))
+
   pub start : IsStatuses [] (record { live = []; given = [] })
   start = record { live = sym laws.statuses.live_start; paired = tt; paged = tt; given = λ k. sym (no-status k) }
 

@@ -243,20 +243,26 @@ module _ (laws : HistoryLaws) where
       tops p e true h = cc
       tops p e false h = top-older laws s (replied duration H) e.life (is.tops p e h)
 
-  pub ended-below : (duration : ℕ) (H : History) (s : Step) (now f doc : ℕ) (value : StoreValue) → is_regular duration H ≡ true → ends (f ∷ []) s.event ≡ true
-      → document_in (replied duration H) f ≡ Some doc → chain (replied duration H) doc ≢ doc ∷ [] → IsStore (replied duration H) now value → IsStore (s ∷ replied duration H) now value
-  ended-below duration H s now f doc value regular end shown below is =
-      ended duration H s now f doc value value regular end shown is (record { found = λ p. found p (entry_of value.entries p) refl; dismissals = refl })
+  pub unnamed : (T : RepliedHistory) (now doc : ℕ) (value : StoreValue) (pair : Pair) → IsStore T now value → chain T doc ≢ doc ∷ [] → has_life is_page_of doc (entry_of value.entries pair) ≡ false
+  unnamed T now doc value pair is below = by_entry (entry_of value.entries pair) refl
     where
       page : (l : Life) → is_page_of doc l ≡ true → l ≡ life.Page doc
       page life.Forever h = cc
       page (life.Until m) h = cc
       page (life.Page d) h = let e : doc ≡ d = grind (arith, nat_tests) in ap life.Page (sym e)
 
-      by_page : (p : Pair) (e : Entry) → entry_of value.entries p ≡ Some e → (b : Bool) → is_page_of doc e.life ≡ b → Some e ≡ cond b None (Some e)
-      by_page p e some false h = refl
-      by_page p e some true h = absurd (below (is.tops p e some doc (page e.life h)))
+      by_page : (e : Entry) → entry_of value.entries pair ≡ Some e → (b : Bool) → is_page_of doc e.life ≡ b → b ≡ false
+      by_page e some false h = refl
+      by_page e some true h = absurd (below (is.tops pair e some doc (page e.life h)))
 
-      found : (p : Pair) (o : Option Entry) → entry_of value.entries p ≡ o → entry_of value.entries p ≡ cond (has_life is_page_of doc (entry_of value.entries p)) None (entry_of value.entries p)
-      found p None none = rw none refl
-      found p (Some e) some = rw some (by_page p e some (is_page_of doc e.life) refl)
+      by_entry : (o : Option Entry) → entry_of value.entries pair ≡ o → has_life is_page_of doc o ≡ false
+      by_entry None none = refl
+      by_entry (Some e) some = by_page e some (is_page_of doc e.life) refl
+
+  pub ended-below : (duration : ℕ) (H : History) (s : Step) (now f doc : ℕ) (value : StoreValue) → is_regular duration H ≡ true → ends (f ∷ []) s.event ≡ true
+      → document_in (replied duration H) f ≡ Some doc → chain (replied duration H) doc ≢ doc ∷ [] → IsStore (replied duration H) now value → IsStore (s ∷ replied duration H) now value
+  ended-below duration H s now f doc value regular end shown below is =
+      ended duration H s now f doc value value regular end shown is (record {
+        found = λ p. ap (λ b. cond b None (entry_of value.entries p)) (sym (unnamed (replied duration H) now doc value p is below));
+        dismissals = refl;
+      })

@@ -1,14 +1,15 @@
 -- For what the statuses stand after a step.
 -- Permissions, the interface PermissionStatus.
-use Rattle.std.specs.Prelude.{◌≡◌, ℕ, Bool, false, IsTrue, [], ◌∷◌, ◌++◌, length, filter, Some}
+use Rattle.std.specs.Prelude.{◌≡◌, ℕ, ◌+◌, ◌==◌, Bool, false, IsTrue, [], ◌∷◌, ◌++◌, length, filter, Some, is_some}
+use Rattle.std.specs.List.{list_any}
 use Rattle.pe_events.specs.declared.event.Event.TheVariants as event
 use Rattle.pe_status.specs.declared.registered.Registered.{Registered}
-use Rattle.pe_status.specs.Registry.{Registry, pair_of, without, count_of_page}
+use Rattle.pe_status.specs.Registry.{Registry, pair_of, status_of, without, count_of_page, AreBelow}
 use Rattle.pe_rules.specs.History.{Step, RepliedHistory, History}
 use Rattle.pe_rules.specs.Embedders.{page}
 use Rattle.pe_rules.specs.Current.{is_current}
 use Rattle.pe_rules.specs.Settings.{pair_for}
-use Rattle.pe_rules.specs.Statuses.{status_by}
+use Rattle.pe_rules.specs.Statuses.{status_by, live_statuses}
 use Rattle.pe_rules.specs.Causes.{page_statuses}
 use Rattle.pe_rules.specs.Replies.{replied, is_regular}
 use Rattle.pe_laws.specs.EffectsLaws.{effects_of}
@@ -21,6 +22,10 @@ pub record StatusSteps : Type 0 where
   pub start : IsStatuses [] (record { live = []; given = [] })
   -- a page has as many live ones as the definitions say
   pub counted : (T : RepliedHistory) (statuses : Registry) (top : ℕ) → IsStatuses T statuses → count_of_page top statuses.live ≡ length (page_statuses T top)
+  -- a number is that of a live one where a live status has it
+  pub there : (T : RepliedHistory) (statuses : Registry) (k : ℕ) → IsStatuses T statuses → is_some (status_of statuses.live k) ≡ list_any (λ x. x.number == k) (live_statuses T)
+  -- the numbers that were given are below the next position
+  pub below : (T : RepliedHistory) (statuses : Registry) → IsStatuses T statuses → AreBelow (length T + 1) statuses.given
   -- a step that makes no status, drops none and ends no document leaves them
   pub quiet : (s : Step) (T : RepliedHistory) (statuses : Registry) → (effects_of s).makes_status ≡ false → (effects_of s).drops_status ≡ false → (effects_of s).ends_documents ≡ false
       → IsStatuses T statuses → IsStatuses (s ∷ T) statuses

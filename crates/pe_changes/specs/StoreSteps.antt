@@ -13,7 +13,7 @@ use Rattle.pe_rules.specs.History.{Step, RepliedHistory, History, clock}
 use Rattle.pe_rules.specs.Numbering.{parent_frame}
 use Rattle.pe_rules.specs.Embedders.{chain}
 use Rattle.pe_rules.specs.Current.{ends, document_in}
-use Rattle.pe_rules.specs.Settings.{Setting, prompt_pair, setting_by, holds, counts, embargo_for, standing_of, stored_state}
+use Rattle.pe_rules.specs.Settings.{Setting, prompt_pair, setting_by, holds, counts, embargo_for, standing_of, stored_state, has_entry}
 use Rattle.pe_rules.specs.Causes.{entries}
 use Rattle.pe_rules.specs.Replies.{replied, is_regular}
 use Rattle.pe_laws.specs.EffectsLaws.{effects_of}
@@ -42,6 +42,10 @@ pub record StoreSteps : Type 0 where
   pub start : (value : StoreValue) → value.entries ≡ [] → ((pair : Pair) → dismissals_of value pair ≡ 0) → IsStore [] 0 value
   -- what it stores for a pair is what is stored
   pub stored : (T : RepliedHistory) (now : ℕ) (value : StoreValue) (pair : Pair) → IsStore T now value → option_map (λ (e : Entry). e.state) (entry_of value.entries pair) ≡ stored_state T now pair
+  -- a pair has an entry there where it has one
+  pub there : (T : RepliedHistory) (value : StoreValue) (pair : Pair) → IsStore T (clock T) value → is_some (entry_of value.entries pair) ≡ has_entry T pair
+  -- no entry holds while an embedded document is current
+  pub unnamed : (T : RepliedHistory) (now doc : ℕ) (value : StoreValue) (pair : Pair) → IsStore T now value → chain T doc ≢ doc ∷ [] → has_life is_page_of doc (entry_of value.entries pair) ≡ false
   -- a dismissal counts, and is an embargo, where the definitions say so
   pub counts : (T : RepliedHistory) (now : ℕ) (value : StoreValue) (pair : Pair) → IsStore T now value → store.counts value pair ≡ counts T now (standing_of T pair)
   pub embargo : (T : RepliedHistory) (now : ℕ) (value : StoreValue) (pair : Pair) → IsStore T now value → store.completes_embargo value pair ≡ is_some (embargo_for now T pair)

@@ -308,14 +308,35 @@ fn a_page_takes_its_setting_along(rt: HostRuntime) {
     assert_eq!(rt; session.tells(Step::End(2, 9), &[]), Some(true));
 }
 
-// Where memory wants no other changes are told: tried with each allocation failing in turn.
+impl Session {
+    // Whether a setting tells these changes, the second time where memory wants.
+    fn tells_again(&mut self, step: Step, told: &[Told]) -> bool {
+        match self.tells(step, told) {
+            Some(right) => right,
+            None => self.tells(step, told) == Some(true),
+        }
+    }
+
+    // Whether settings, their lapse and the end of a page tell their changes; None where memory wants for
+    // one of the last two.
+    fn tells_all(&mut self) -> Option<bool> {
+        let page = Life::Page(number(1));
+        let camera = Step::Set(Feature::Camera, State::Granted, page, 10);
+        let place = Step::Set(Feature::Geolocation, State::Granted, Life::Until(110), 10);
+        let set = self.tells_again(camera, &[(10, 4, State::Granted)])
+            && self.tells_again(place, &[(10, 2, State::Granted)]);
+        let lapsed = self.tells(Step::Lapse(200), &[(110, 2, State::Prompt)])?;
+        let ended = self.tells(Step::End(1, 300), &[(300, 4, State::Prompt)])?;
+        Some(set && lapsed && ended)
+    }
+}
+
+// Where memory wants no other changes are told, and a setting can be tried again: tried with each allocation
+// failing in turn.
 #[test]
-fn memory_that_wants_tells_nothing(rt: HostRuntime) {
+fn memory_that_wants_tells_nothing_else(rt: HostRuntime) {
     if let Ok(made) = Session::new(rt.alloc()) {
         let mut session = made;
-        let camera = Step::Set(Feature::Camera, State::Granted, Life::Page(number(1)), 10);
-        let place = Step::Set(Feature::Geolocation, State::Granted, Life::Until(110), 10);
-        assert!(rt; session.tells(camera, &[(10, 4, State::Granted)]) != Some(false));
-        assert!(rt; session.tells(place, &[(10, 2, State::Granted)]) != Some(false));
+        assert!(rt; session.tells_all() != Some(false));
     }
 }

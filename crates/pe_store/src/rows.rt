@@ -290,6 +290,14 @@ impl Rows {
         Ok(pairs)
     }
 
+    // Each pair has one entry at most; the call does nothing.
+    pub(crate) fn is_one_per_pair(&self)
+        ensures { IsOnePerPair (values_of self.now) }
+    {
+        same_pairs_are_one();
+        let _ = &self.map;
+    }
+
     // Puts an entry in the place of that of its pair, which is given, else behind those of its feature.
     pub(crate) fn put(&mut self, place: Option<Place>, entry: Entry) -> Result<(), AllocError>
         requires place { MatchOption place (entry_of (values_of self.old) (pair_of entry) ≡ None) (λ p. HasRow self.old p (pair_of entry)) }

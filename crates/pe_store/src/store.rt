@@ -4,7 +4,7 @@ ghost use Rattle.std.specs.Option.{option_copied};
 ghost use Rattle.pe_base.specs.declared.limits.TheConstants.{STORE_LIMIT, EMBARGO_DISMISSALS};
 ghost use Rattle.pe_store.specs.declared.key.Life.TheVariants as life;
 ghost use Rattle.pe_store.specs.Due.{IsDue, IsDueEntry};
-ghost use Rattle.pe_store.specs.Entries.{dismissals_of, pair_of, entry_of, put_entry, stored, without, without_all, IsFull, counts_over, counts, completes_embargo, embargo};
+ghost use Rattle.pe_store.specs.Entries.{dismissals_of, pair_of, entry_of, put_entry, stored, without, without_all, IsFull, IsOnePerPair, counts_over, counts, completes_embargo, embargo};
 ghost use Rattle.pe_store.specs.Pages.{pairs_of_page, without_page, is_listed, AreApart};
 ghost use Rattle.pe_store.specs.Pairs.{Pair, is_same_pair};
 ghost use Rattle.pe_store.specs.Places.{has_life, is_page_of};
@@ -64,6 +64,13 @@ impl Store {
         ensures limit { result ≤ STORE_LIMIT }
     {
         self.rows.len()
+    }
+
+    /// Each pair has one entry at most; the call does nothing.
+    pub fn is_one_per_pair(&self)
+        ensures { IsOnePerPair self.now.entries }
+    {
+        self.rows.is_one_per_pair();
     }
 
     /// The entry at a place, counted from 0; None exactly from `len` on. Nothing is copied.

@@ -1,12 +1,14 @@
-use Rattle.pe_changes.proofs.Counted.{counted, top}
+use Rattle.pe_changes.proofs.Counted.{counted, entry-is, top}
 use Rattle.pe_changes.proofs.Stored.{stored-is}
-use Rattle.pe_changes.proofs.Stores.{start, quiet, set, counts-is, embargo-is, dismissed, ended, ended-below}
+use Rattle.pe_changes.proofs.Stores.{start, quiet, set, counts-is, embargo-is, dismissed, unnamed, ended, ended-below}
 use Rattle.pe_changes.proofs.steps.store_steps.Goals as goal
 
 pub returns : goal.returns
 returns c = let laws = c.history_laws.ensures in record {
   start = start;
   stored = stored-is laws;
+  there = entry-is laws;
+  unnamed = unnamed laws;
   counts = counts-is laws;
   embargo = embargo-is laws;
   counted = counted laws c.same_pairs_are_one.ensures;
