@@ -46,8 +46,3 @@ length-map (e ∷ es) = ap suc (length-map es)
 pub counted : HistoryLaws → ((p q : Pair) → Decides (is_same_pair p q) (p ≡ q)) → (T : RepliedHistory) (value : StoreValue) → IsStore T (clock T) value → IsOnePerPair value.entries → length value.entries ≡ length (entries T)
 counted laws pairs T value is one =
     sym (laws.entries.entries_as_many T (map pair_of value.entries) (λ p. pair-count pairs value.entries p one ∙ ap (λ b. cond b 1 0) (entry-is laws T value p is)) ∙ length-map value.entries)
-
-pub top : HistoryLaws → (duration : ℕ) (H : History) (f d : ℕ) → is_regular duration H ≡ true → document_in (replied duration H) f ≡ Some d → parent_frame (replied duration H) f ≡ None → chain (replied duration H) d ≡ d ∷ []
-top laws duration H f d regular shown none =
-    (laws.tree.tree duration H regular).hangs f d shown
-    ∙ ap (λ o. unwrap_or (option_map (chain (replied duration H)) (option_and_then (document_in (replied duration H)) o)) [] ++ d ∷ []) none

@@ -96,6 +96,12 @@ module _ (laws : HistoryLaws) where
         tops p e true h = let same : entry_by x ≡ e = cc in subst (λ (z : Entry). IsTopLife (s ∷ T) z.life) same (top-older laws s T x.life top)
         tops p e false h = top-older laws s T e.life (is.tops p e h)
 
+    -- the same in a regular history, where the life names a top document
+    pub set-regular : (duration : ℕ) (H : History) (s : Step) (now : ℕ) (x : Setting) (old new : StoreValue) → is_regular duration H ≡ true → setting_by s.time s.event (replied duration H) ≡ Some x
+        → holds (s ∷ replied duration H) now x.life ≡ true → IsStore (replied duration H) now old → IsSet x old new → IsStore (s ∷ replied duration H) now new
+    set-regular duration H s now x old new regular made lasts is next =
+        set s (replied duration H) now x old new made lasts (λ d page. laws.settings.life_top duration H s.time s.event x d regular made page) is next
+
   -- ---- a dismissal
 
   counts-by : (o : Option Entry) → store.counts_over o ≡ is_undecided (option_map (λ (e : Entry). e.state) o)

@@ -10,14 +10,13 @@ use Rattle.pe_events.specs.declared.event.Event.TheVariants as event
 use Rattle.pe_events.specs.declared.event.EventLife.{EventLife}
 use Rattle.pe_events.specs.declared.event.Outcome.TheVariants as outcome
 use Rattle.pe_rules.specs.History.{Step, RepliedHistory, History, clock}
-use Rattle.pe_rules.specs.Numbering.{parent_frame}
 use Rattle.pe_rules.specs.Embedders.{chain}
 use Rattle.pe_rules.specs.Current.{ends, document_in}
 use Rattle.pe_rules.specs.Settings.{Setting, prompt_pair, setting_by, holds, counts, embargo_for, standing_of, stored_state, has_entry}
 use Rattle.pe_rules.specs.Causes.{entries}
 use Rattle.pe_rules.specs.Replies.{replied, is_regular}
 use Rattle.pe_laws.specs.EffectsLaws.{effects_of}
-use Rattle.pe_changes.specs.Parts.{entry_by, IsTopLife, IsStore}
+use Rattle.pe_changes.specs.Parts.{entry_by, IsStore}
 
 -- the pair of a setting has its entry, no dismissal of it counts any more, and all else is as before
 pub record IsSet (x : Setting) (old new : StoreValue) : Type 0 where
@@ -51,15 +50,12 @@ pub record StoreSteps : Type 0 where
   pub embargo : (T : RepliedHistory) (now : ℕ) (value : StoreValue) (pair : Pair) → IsStore T now value → store.completes_embargo value pair ≡ is_some (embargo_for now T pair)
   -- it has as many entries as there are
   pub counted : (T : RepliedHistory) (value : StoreValue) → IsStore T (clock T) value → IsOnePerPair value.entries → length value.entries ≡ length (entries T)
-  -- the document that a top frame shows is the top one of its page
-  pub top : (duration : ℕ) (H : History) (f d : ℕ) → IsTrue (is_regular duration H) → document_in (replied duration H) f ≡ Some d → parent_frame (replied duration H) f ≡ None
-      → chain (replied duration H) d ≡ d ∷ []
   -- a step that sets nothing, dismisses nothing and ends no document leaves it
   pub quiet : (s : Step) (T : RepliedHistory) (now : ℕ) (value : StoreValue) → (effects_of s).sets ≡ false → (effects_of s).dismisses ≡ false → (effects_of s).ends_documents ≡ false
       → IsStore T now value → IsStore (s ∷ T) now value
   -- after a setting, by name or as an embargo
-  pub set : (s : Step) (T : RepliedHistory) (now : ℕ) (x : Setting) (old new : StoreValue) → setting_by s.time s.event T ≡ Some x → IsTrue (holds (s ∷ T) now x.life) → IsTopLife T x.life
-      → IsStore T now old → IsSet x old new → IsStore (s ∷ T) now new
+  pub set : (duration : ℕ) (H : History) (s : Step) (now : ℕ) (x : Setting) (old new : StoreValue) → IsTrue (is_regular duration H) → setting_by s.time s.event (replied duration H) ≡ Some x
+      → IsTrue (holds (s ∷ replied duration H) now x.life) → IsStore (replied duration H) now old → IsSet x old new → IsStore (s ∷ replied duration H) now new
   -- after a dismissal, an embargo or not
   pub dismissed : (s : Step) (T : RepliedHistory) (prompt : ℕ) (given : EventLife) (pair : Pair) (old new : StoreValue) → s.event ≡ event.Answered prompt outcome.Dismiss given
       → prompt_pair T prompt ≡ Some pair → IsStore T s.time old → IsDismissed pair s.time old new → IsStore (s ∷ T) s.time new

@@ -1,12 +1,12 @@
 -- Numbers that are not of a frame yet have no attributes.
-use Rattle.std.proofs.Common.{◌≡◌, ◌≢◌, ℕ, suc, ◌<◌, ◌≤◌, Bool, true, false, not, ◌||◌, ◌==◌, List, [], ◌∷◌, length, Option, Some, None, unwrap_or, refl, sym, ◌∙◌, ap, arith, true≢false}
+use Rattle.std.proofs.Common.{◌≡◌, ◌≢◌, ℕ, suc, ◌<◌, ◌≤◌, Bool, true, false, not, ◌||◌, ◌==◌, [], ◌∷◌, length, None, refl, ◌∙◌, arith, true≢false}
 use Rattle.std.proofs.lemmas.Bool.Decides.{nat_tests}
 use Rattle.pe_events.specs.declared.event.AttrName.{AttrName}
 use Rattle.pe_events.specs.declared.event.Event.{Event}
 use Rattle.pe_events.specs.declared.event.Event.TheVariants as event
-use Rattle.pe_rules.specs.History.{Step, RepliedHistory, History, some_if, newest_answer}
+use Rattle.pe_rules.specs.History.{RepliedHistory, History, newest_answer}
 use Rattle.pe_rules.specs.Numbering.{is_frame}
-use Rattle.pe_rules.specs.Attributes.{is_same_name, attribute_by, attribute}
+use Rattle.pe_rules.specs.Attributes.{attribute_by, attribute}
 use Rattle.pe_rules.specs.Causes.{names_unknown}
 use Rattle.pe_rules.specs.Replies.{replied, is_regular}
 use Rattle.pe_laws.proofs.Attributes.{attribute-stays}

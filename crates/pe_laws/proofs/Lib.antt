@@ -40,3 +40,4 @@ pub mod Delegated
 pub mod AttributesBeyond
 pub mod Activated
 pub mod LiveAfter
+pub mod Tops

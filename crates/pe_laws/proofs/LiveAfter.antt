@@ -1,5 +1,5 @@
 -- The changes that a step brings by itself are those of the statuses that are live after it.
-use Rattle.std.proofs.Common.{◌≡◌, ℕ, suc, ◌<◌, Bool, true, false, ◌||◌, ◌==◌, List, [], ◌∷◌, length, filter, flat_map, option_to_list, refl, sym, ◌∙◌, ap, arith, cond}
+use Rattle.std.proofs.Common.{◌≡◌, ℕ, suc, ◌<◌, Bool, true, false, ◌==◌, List, [], ◌∷◌, length, filter, flat_map, option_to_list, refl, sym, ◌∙◌, ap, arith, cond}
 use Rattle.std.specs.List.{list_any}
 use Rattle.std.proofs.lemmas.Bool.Decides.{nat_tests}
 use Rattle.pe_rules.specs.History.{Step, RepliedHistory}

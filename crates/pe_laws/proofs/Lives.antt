@@ -67,7 +67,7 @@ pub not-page : (time : ℕ) (span : Option ℕ) (d : ℕ) → life_for time span
 not-page time None d h = cc
 not-page time (Some ms) d h = cc
 
-answer-page : (time : ℕ) (g : EventLife) (o : Option ℕ) (d : ℕ) → life_of_answer time g o ≡ life.Page d → o ≡ Some d
+pub answer-page : (time : ℕ) (g : EventLife) (o : Option ℕ) (d : ℕ) → life_of_answer time g o ≡ life.Page d → o ≡ Some d
 answer-page time given.Forever o d h = cc
 answer-page time (given.For ms) o d h = cc
 answer-page time given.Once None d h = cc

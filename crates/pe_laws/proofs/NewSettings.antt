@@ -36,7 +36,7 @@ made-of g (Some a) None x h = cc
 made-of g (Some a) (Some b) x h = (a, b, refl, ap (λ o. unwrap_or o (g a b)) h)
 
 -- the setting by name, of a `set`
-set-life : (time : ℕ) (feature first : List ℕ) (second : Option (List ℕ)) (stored : State) (span : Option ℕ) (T : RepliedHistory) (x : Setting)
+pub set-life : (time : ℕ) (feature first : List ℕ) (second : Option (List ℕ)) (stored : State) (span : Option ℕ) (T : RepliedHistory) (x : Setting)
     → setting_named time (event.SetState feature first second stored span) T ≡ Some x → x.life ≡ life_for time span
 unfolding setting_named
 set-life time feature first second stored span T x h =
@@ -44,10 +44,10 @@ set-life time feature first second stored span T x h =
     ap (λ (y : Setting). y.life) (sym k.3)
 
 -- the setting by name, of an answer
-abbrev AnswerLife : ℕ → Outcome → EventLife → ℕ → RepliedHistory → Setting → Type 0
+abbrev pub AnswerLife : ℕ → Outcome → EventLife → ℕ → RepliedHistory → Setting → Type 0
 AnswerLife time out given prompt T x = (stored_by_outcome out ≡ Some x.state) × (x.life ≡ life_of_answer time given (option_and_then (document_in T) (prompt_page T prompt)))
 
-answer-life : (time prompt : ℕ) (out : Outcome) (given : EventLife) (T : RepliedHistory) (x : Setting) → setting_named time (event.Answered prompt out given) T ≡ Some x
+pub answer-life : (time prompt : ℕ) (out : Outcome) (given : EventLife) (T : RepliedHistory) (x : Setting) → setting_named time (event.Answered prompt out given) T ≡ Some x
     → AnswerLife time out given prompt T x
 unfolding setting_named
 answer-life time prompt out given T x h =
@@ -65,10 +65,10 @@ embargo-life time T q x h = by_test (counts T time (standing_of T q) && complete
     by_test false e = cc
 
 -- a setting is made by name, or is an embargo
-abbrev ByWay : ℕ → Event → RepliedHistory → Setting → Type 0
+abbrev pub ByWay : ℕ → Event → RepliedHistory → Setting → Type 0
 ByWay time e T x = (setting_named time e T ≡ Some x) ⊎ (x.life ≡ life.Until (time + EMBARGO_SPAN))
 
-by-way : (time : ℕ) (e : Event) (T : RepliedHistory) (x : Setting) → setting_by time e T ≡ Some x → ByWay time e T x
+pub by-way : (time : ℕ) (e : Event) (T : RepliedHistory) (x : Setting) → setting_by time e T ≡ Some x → ByWay time e T x
 unfolding setting_by
 by-way time e T x h = by_named (setting_named time e T) refl h
   where

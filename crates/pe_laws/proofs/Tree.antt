@@ -487,14 +487,15 @@ parent-is-older T named f g par =
     let last : (d : ℕ) × (last_document T g ≡ Some d) = some-of (last_document T g) over.has in
     (over.older, framed T named g last.0 last.1)
 
+pub tree-of : (T : RepliedHistory) → AreNamedLive T → IsTree T
+tree-of T named = record {
+  parent_older = parent-is-older T named;
+  parent_live = parent-live T named;
+  hangs = hangs-now T named;
+  frames_hang = frames-hang T named;
+  navigated = navigated T named;
+  above_current = λ d p. above-current (length (chain T d)) T named d p (omega arith);
+}
+
 pub tree : (duration : ℕ) (H : History) → is_regular duration H ≡ true → IsTree (replied duration H)
-tree duration H regular =
-    let named = regular-names duration H regular in
-    record {
-      parent_older = parent-is-older (replied duration H) named;
-      parent_live = parent-live (replied duration H) named;
-      hangs = hangs-now (replied duration H) named;
-      frames_hang = frames-hang (replied duration H) named;
-      navigated = navigated (replied duration H) named;
-      above_current = λ d p. above-current (length (chain (replied duration H) d)) (replied duration H) named d p (omega arith);
-    }
+tree duration H regular = tree-of (replied duration H) (regular-names duration H regular)

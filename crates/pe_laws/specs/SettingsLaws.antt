@@ -1,5 +1,5 @@
 -- Laws of settings: what stands for a pair step by step, also after an embargo, and how long what is stored holds.
-use Rattle.std.specs.Prelude.{◌≡◌, ◌≢◌, ℕ, ◌<◌, ◌≤◌, ◌+◌, Bool, true, false, not, ◌&&◌, ◌==◌, IsTrue, ◌∷◌, length, Option, Some, is_some, unwrap_or, option_map, option_and_then, if◌then◌else◌}
+use Rattle.std.specs.Prelude.{◌≡◌, ◌≢◌, ℕ, ◌<◌, ◌≤◌, ◌+◌, Bool, true, false, not, ◌&&◌, ◌==◌, IsTrue, [], ◌∷◌, length, Option, Some, is_some, unwrap_or, option_map, option_and_then, if◌then◌else◌}
 use Rattle.std.specs.Option.{option_or}
 use Rattle.pe_base.specs.declared.limits.TheConstants.{EMBARGO_DISMISSALS}
 use Rattle.pe_base.specs.declared.state.State.{State}
@@ -13,9 +13,11 @@ use Rattle.pe_events.specs.declared.event.Event.TheVariants as event
 use Rattle.pe_events.specs.declared.event.EventLife.{EventLife}
 use Rattle.pe_events.specs.declared.event.Outcome.TheVariants as outcome
 use Rattle.pe_events.specs.Fitting.{is_fitting}
-use Rattle.pe_rules.specs.History.{Step, RepliedHistory, some_if, clock}
+use Rattle.pe_rules.specs.History.{Step, RepliedHistory, History, some_if, clock}
+use Rattle.pe_rules.specs.Embedders.{chain}
 use Rattle.pe_rules.specs.Current.{ends, frames_above, is_current}
 use Rattle.pe_rules.specs.Settings.{Setting, Standing, key_for, pair_for, prompt_pair, setting_by, holds, stored_by, dismissed_pair, counts, embargo, embargo_for, is_pair, standing_of, last_setting, dismissals, stored_state, has_entry}
+use Rattle.pe_rules.specs.Replies.{replied, is_regular}
 use Rattle.pe_laws.specs.Effects.{effects}
 
 -- the setting that a step makes of this pair, by name or as an embargo
@@ -110,3 +112,6 @@ pub record SettingsLaws : Type 0 where
   -- a step that makes a setting makes no status, drops none and ends no document
   pub set_alone : (s : Step) (T : RepliedHistory) (x : Setting) → setting_by s.time s.event T ≡ Some x
       → ((effects s.event s.item).makes_status ≡ false) × ((effects s.event s.item).drops_status ≡ false) × ((effects s.event s.item).ends_documents ≡ false)
+  -- in a regular history the document that a setting's life names is the top one of its page
+  pub life_top : (duration : ℕ) (H : History) (time : ℕ) (e : Event) (x : Setting) (d : ℕ) → IsTrue (is_regular duration H) → setting_by time e (replied duration H) ≡ Some x → x.life ≡ life.Page d
+      → chain (replied duration H) d ≡ d ∷ []

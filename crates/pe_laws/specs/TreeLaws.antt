@@ -1,9 +1,9 @@
 -- Laws of the tree of live frames in a regular history: the way up from a live frame is the chain of its document.
-use Rattle.std.specs.Prelude.{◌≡◌, ℕ, ◌<◌, IsTrue, List, [], ◌∷◌, ◌++◌, length, Option, Some, unwrap_or, option_map, option_and_then}
+use Rattle.std.specs.Prelude.{◌≡◌, ℕ, ◌<◌, IsTrue, List, [], ◌∷◌, ◌++◌, length, Option, Some, unwrap_or, option_map, option_and_then, None}
 use Rattle.pe_events.specs.declared.event.Event.TheVariants as event
 use Rattle.pe_rules.specs.History.{Step, RepliedHistory, History}
 use Rattle.pe_rules.specs.Numbering.{is_frame, parent_frame}
-use Rattle.pe_rules.specs.Embedders.{chain}
+use Rattle.pe_rules.specs.Embedders.{chain, page}
 use Rattle.pe_rules.specs.Activation.{is_one_of}
 use Rattle.pe_rules.specs.Current.{frames_above, is_current, document_in, is_live}
 use Rattle.pe_rules.specs.Replies.{replied, is_regular}
@@ -28,3 +28,5 @@ pub record IsTree (T : RepliedHistory) : Type 0 where
 -- what holds of the tree of live frames
 pub record TreeLaws : Type 0 where
   pub tree : (duration : ℕ) (H : History) → IsTrue (is_regular duration H) → IsTree (replied duration H)
+  -- the page of a current document is a top frame
+  pub page_top : (duration : ℕ) (H : History) (d : ℕ) → IsTrue (is_regular duration H) → IsTrue (is_current (replied duration H) d) → parent_frame (replied duration H) (page (replied duration H) d) ≡ None

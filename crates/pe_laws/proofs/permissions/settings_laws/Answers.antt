@@ -3,6 +3,7 @@ use Rattle.pe_laws.proofs.Standings.{standing-step, dismissals-step, standing-se
 use Rattle.pe_laws.proofs.Lives.{key-older, pair-older, pair-feature, life-current, life-within, last-within, last-pair, holds-step, holds-older, ended-later, stored-sooner, stored-by-standing, entry-by-standing, stored-older, stored-set}
 use Rattle.pe_laws.proofs.InForce.{stored-in-force, in-force-step, in-force-later}
 use Rattle.pe_laws.proofs.NewSettings.{page-decides, set-holds, set-alone}
+use Rattle.pe_laws.proofs.Tops.{life-top}
 use Rattle.pe_laws.proofs.permissions.settings_laws.Goals as goal
 
 pub returns : goal.returns
@@ -37,4 +38,5 @@ returns c = let pairs = c.same_pairs_are_one.ensures in record {
   page_life_decides = page-decides;
   set_holds = set-holds;
   set_alone = set-alone;
+  life_top = life-top;
 }
