@@ -32,9 +32,7 @@ impl Engine {
                 reason: Reason::NoHistory,
             });
         }
-        let Ok(()) = consume_history(&mut self.frames, h, steps) else {
-            return Err(Refusal::Memory);
-        };
+        consume_history(&mut self.frames, h, steps).unwrap();
         self.note(now, Made::Nothing)?;
         Ok(Answer::Allowed)
     }

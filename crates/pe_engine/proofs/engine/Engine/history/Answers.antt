@@ -44,9 +44,9 @@ returns g c = λ H s.
     let says : answer_of e.duration T c.args.now (event.History c.args.frame) ≡ answer.Allowed = history-answer c.history_laws.ensures e.duration T c.args.now c.args.frame x shown ∙ ap answer_of_history_action active in
     let n = noted e c.note-2.new.self _ _ _ N c.self.view_is c.in_ok-note-2.ensures.ok in
     let (y, found) = some-of (entry_of e.frames.entries h) c.in_ok-h.ensures.found in
-    let clause = subst (λ (v : Forest Row). IfSome (entry_of v.entries h) (λ z. N.entries ≡ changed_page (history_consumed (λ (r : Row). r.stamp) (λ t (r : Row). record r { second = t })) v.entries (top_of z))) (ap (λ (v : EngineValue). v.frames) c.self.view_is) c.in-Ok.ensures.entries in
+    let clause = subst (λ (v : Forest Row). IfSome (entry_of v.entries h) (λ z. N.entries ≡ changed_page (history_consumed (λ (r : Row). r.stamp) (λ t (r : Row). record r { second = t })) v.entries (top_of z))) (ap (λ (v : EngineValue). v.frames) c.self.view_is) c.consume_history.ensures.entries in
     let entries = subst (λ o. IfSome o (λ z. N.entries ≡ changed_page (history_consumed (λ (r : Row). r.stamp) (λ t (r : Row). record r { second = t })) e.frames.entries (top_of z))) found clause in
     accept c.history_laws.ensures e c.note-2.new.self H (timed c.args.now (event.History c.args.frame)) answer.Allowed (record { makes = λ i. refl; drops = λ i. refl; sets = λ i. refl; dismisses = λ i. refl }) s
     n.duration n.failed n.clock (c.in_ok-h.ensures.rest H _ s refl ∙ other-history T c.args.now c.args.frame) (sym says)
     (λ item is. rw (n.made, n.frames_are) (subst (λ i. IsTree (step_of (timed c.args.now (event.History c.args.frame)) i ∷ T) (e.made ++ made.Nothing ∷ []) N) (sym (is ∙ ap Replied says))
-    (kept-history c.history_laws.ensures c.args.now c.args.frame T e.made e.frames N h y c.in_ok-h.ensures.handle found entries (c.in-Ok.ensures.marks ∙ ap (λ (v : EngineValue). v.frames.marks) c.self.view_is) s.steps.tree)))
+    (kept-history c.history_laws.ensures c.args.now c.args.frame T e.made e.frames N h y c.in_ok-h.ensures.handle found entries (c.consume_history.ensures.marks ∙ ap (λ (v : EngineValue). v.frames.marks) c.self.view_is) s.steps.tree)))
