@@ -5,18 +5,6 @@ under valgrind, and the nanoseconds of one line, as the least user time of five 
 `crates/pe_bench/src/reading.rt` or `crates/pe_bench/src/writing.rt`, or `input` or `consume`, which are measured
 on pages of 16 and 256 frames, flat and deep, with what one more frame costs, or `messages`, `store`, `statuses`,
 `walk` or `prompts`, which are measured on each of the sizes below; without names it takes all of them.
-"""Instructions and time of reading and writing a line, of activation and of the store: python3 instructions.py PE_BENCH [NAME..].
-"""Instructions and time of the works of pe_bench: python3 instructions.py PE_BENCH [NAME..].
-
-For each name of a line or an answer it prints the instructions of one line, as the difference of two counts
-under valgrind, and the nanoseconds of one line, as the least user time of five runs. Every name is one of
-`crates/pe_bench/src/reading.rt` or `crates/pe_bench/src/writing.rt`, or `input` or `consume`, which are measured
-on pages of 16 and 256 frames, flat and deep, with what one more frame costs, or `messages`, which are posted and
-delivered in 1, 16 and 64 pages with 1 and 256 waiting in each; without names it takes all of them.
-on pages of 16 and 256 frames, flat and deep, with what one more frame costs, or `store`, which is measured with
-1, 1,000, 8,192 and 65,536 entries; without names it takes all of them.
-on pages of 16 and 256 frames, flat and deep, with what one more frame costs, or `statuses`, `walk` or `prompts`,
-which are measured on each of the sizes below; without names it takes all of them.
 """
 import os
 import re
