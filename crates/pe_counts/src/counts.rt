@@ -2,16 +2,18 @@
 ghost use Rattle.std.specs.Prelude.{◌≡◌, ◌+◌, ◌-◌, ◌<◌, ◌^◌, ◌==◌, OnOk, OnErr, if◌then◌else◌};
 ghost use Rattle.pe_counts.specs.Counts.{count_of};
 
+use indexmap::IndexMap;
 use pe_base::FrameNo;
 use std::alloc::{AllocError, Global};
-use std::collections::BTreeMap;
 use std::marker::Model;
 
-/// How many things each page has. A page that has none takes no memory. Contracts see it as the list of
-/// pages with their counts.
+/// How many things each page has. A page that has none has no entry, and its place serves the next that has
+/// some, so the memory is that of the most pages that had some at once. A call costs a look-up by hash or two,
+/// however many pages have some. Contracts see it as the list of pages with their counts, in no order.
 #[derive(Drop)]
 pub struct PageCounts {
-    counts: BTreeMap<u32, u32>,
+    // The count of each page that has some. The order of the map is never seen.
+    counts: IndexMap<u32, u32>,
 }
 
 impl Model for PageCounts {
@@ -28,7 +30,7 @@ impl PageCounts {
         ensures { (p : _) → count_of result p ≡ 0 }
     {
         PageCounts {
-            counts: BTreeMap::new(alloc),
+            counts: IndexMap::new(alloc),
         }
     }
 
@@ -45,8 +47,11 @@ impl PageCounts {
         ensures ok { OnOk result ((p : _) → count_of self.new p ≡ if page == p then count_of self.old p + 1 else count_of self.old p) }
         ensures err { OnErr result ((p : _) → count_of self.new p ≡ count_of self.old p) }
     {
-        let count = self.get(page) + 1;
-        self.counts.insert(page.get(), count)?;
+        if let Some(count) = self.counts.get_mut(&page.get()) {
+            *count += 1;
+            return Ok(());
+        }
+        self.counts.insert(page.get(), 1)?;
         Ok(())
     }
 
@@ -54,11 +59,13 @@ impl PageCounts {
     pub fn take(&mut self, page: FrameNo)
         ensures { (p : _) → count_of self.new p ≡ if page == p then count_of self.old p - 1 else count_of self.old p }
     {
-        let count = self.get(page);
-        if count > 1 {
-            let _ = self.counts.insert(page.get(), count - 1);
+        let Some(count) = self.counts.get_mut(&page.get()) else {
+            return;
+        };
+        if *count > 1 {
+            *count -= 1;
         } else {
-            self.counts.remove(&page.get());
+            self.counts.swap_remove(&page.get());
         }
     }
 }

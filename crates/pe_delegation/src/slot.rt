@@ -22,7 +22,7 @@ impl Model for Slot {
 }
 
 impl Slot {
-    // The message waits. `AllocError` where memory wants.
+    /// The message waits. `AllocError` where memory wants.
     pub fn of(alloc: Global, message: Message) -> Result<Slot, AllocError>
         ensures { IfOk result (λ slot. slot ≡ Some message) }
     {
@@ -31,7 +31,7 @@ impl Slot {
         })
     }
 
-    // The message, if it waits.
+    /// The message, if it waits.
     pub fn get(&self) -> Option<&Message>
         ensures { option_copied result ≡ self.now }
     {
@@ -41,7 +41,7 @@ impl Slot {
         }
     }
 
-    // The message waits no longer.
+    /// The message waits no longer.
     pub fn settle(&mut self)
         ensures { self.new ≡ None }
     {
