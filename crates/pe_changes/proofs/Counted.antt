@@ -1,17 +1,13 @@
 -- A store that stands for steps has as many entries as there are.
-use Rattle.std.proofs.Common.{◌≡◌, ℕ, suc, Bool, true, false, List, [], ◌∷◌, ◌++◌, length, map, filter, Option, Some, None, is_some, unwrap_or, option_map, option_and_then, refl, sym, ◌∙◌, ap, cond}
+use Rattle.std.proofs.Common.{◌≡◌, suc, Bool, true, false, List, [], ◌∷◌, length, map, filter, Option, Some, None, is_some, option_map, refl, sym, ◌∙◌, ap, cond}
 use Rattle.std.specs.Bool.{Decides}
 use Rattle.std.specs.List.{find}
 use Rattle.pe_store.specs.declared.entry.Entry.{Entry}
 use Rattle.pe_store.specs.Entries.{StoreValue, pair_of, is_of, entry_of, IsOnePerPair}
 use Rattle.pe_store.specs.Pairs.{Pair, is_same_pair}
-use Rattle.pe_rules.specs.History.{RepliedHistory, History, clock}
-use Rattle.pe_rules.specs.Numbering.{parent_frame}
-use Rattle.pe_rules.specs.Embedders.{chain}
-use Rattle.pe_rules.specs.Current.{document_in}
+use Rattle.pe_rules.specs.History.{RepliedHistory, clock}
 use Rattle.pe_rules.specs.Settings.{has_entry}
 use Rattle.pe_rules.specs.Causes.{entries}
-use Rattle.pe_rules.specs.Replies.{replied, is_regular}
 use Rattle.pe_laws.specs.HistoryLaws.{HistoryLaws}
 use Rattle.pe_laws.specs.EntriesLaws.{times_listed}
 use Rattle.pe_changes.specs.Parts.{IsStore}

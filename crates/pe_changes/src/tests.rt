@@ -155,7 +155,7 @@ struct Session {
 // The changes that the step brings.
 fn answer<L: Ledger>(
     session: &mut Session,
-    step: Step,
+    step: &Step,
     blank: Blank,
 ) -> Result<Vec<Change>, AllocError>
     requires name { blank.name ≡ L.name }
@@ -171,13 +171,13 @@ fn answer<L: Ledger>(
                 &session.store,
                 &session.statuses,
                 &session.frames,
-                feature,
+                *feature,
                 &key,
-                state,
-                time(now),
+                *state,
+                time(*now),
                 &mut steps,
             )?;
-            match session.store.set(feature, key, state, life) {
+            match session.store.set(*feature, key, *state, *life) {
                 Ok(()) => Ok(changes),
                 Err(_) => Err(AllocError),
             }
@@ -187,18 +187,18 @@ fn answer<L: Ledger>(
             &mut session.store,
             &session.statuses,
             &session.frames,
-            time(to),
+            time(*to),
             &mut steps,
         ),
         Step::End(doc, now) => {
-            let ended = session.store.end_page(number(doc))?;
-            session.statuses.gone(number(doc));
+            let ended = session.store.end_page(number(*doc))?;
+            session.statuses.gone(number(*doc));
             changes_of_end(
                 session.alloc,
                 &ended,
                 &session.statuses,
                 &session.frames,
-                time(now),
+                time(*now),
                 &mut steps,
             )
         }
@@ -233,7 +233,7 @@ impl Session {
     }
 
     // Whether the step tells these changes; None where memory wants.
-    fn tells(&mut self, step: Step, told: &[Told]) -> Option<bool> {
+    fn tells(&mut self, step: &Step, told: &[Told]) -> Option<bool> {
         match answer::<Brand>(self, step, Blank::new(1)) {
             Ok(changes) => Some(are(&changes, told)),
             Err(_) => None,
@@ -251,20 +251,20 @@ fn a_setting_lapses_before_the_next(rt: HostRuntime) {
     };
     let mut session = made;
     let set = Step::Set(place, State::Granted, Life::Until(110), 10);
-    assert_eq!(rt; session.tells(set, &[(10, 2, State::Granted)]), Some(true));
-    assert_eq!(rt; session.tells(Step::Lapse(109), &[]), Some(true));
+    assert_eq!(rt; session.tells(&set, &[(10, 2, State::Granted)]), Some(true));
+    assert_eq!(rt; session.tells(&Step::Lapse(109), &[]), Some(true));
     assert_eq!(rt;
-        session.tells(Step::Lapse(500), &[(110, 2, State::Prompt)]),
+        session.tells(&Step::Lapse(500), &[(110, 2, State::Prompt)]),
         Some(true)
     );
     let denied = Step::Set(place, State::Denied, Life::Forever, 500);
     assert_eq!(rt;
-        session.tells(denied, &[(500, 2, State::Denied)]),
+        session.tells(&denied, &[(500, 2, State::Denied)]),
         Some(true)
     );
     let same = Step::Set(place, State::Denied, Life::Forever, 600);
-    assert_eq!(rt; session.tells(same, &[]), Some(true));
-    assert_eq!(rt; session.tells(Step::Lapse(1000), &[]), Some(true));
+    assert_eq!(rt; session.tells(&same, &[]), Some(true));
+    assert_eq!(rt; session.tells(&Step::Lapse(1000), &[]), Some(true));
 }
 
 // Two settings that end at one moment change their statuses by number, and a document that is denied all
@@ -279,15 +279,15 @@ fn changes_at_one_moment_are_in_order(rt: HostRuntime) {
     let camera = Step::Set(Feature::Camera, State::Denied, Life::Until(110), 10);
     let place = Step::Set(Feature::Geolocation, State::Granted, Life::Until(110), 10);
     assert_eq!(rt;
-        session.tells(camera, &[(10, 4, State::Denied)]),
+        session.tells(&camera, &[(10, 4, State::Denied)]),
         Some(true)
     );
     assert_eq!(rt;
-        session.tells(place, &[(10, 2, State::Granted)]),
+        session.tells(&place, &[(10, 2, State::Granted)]),
         Some(true)
     );
     let told = [(110, 2, State::Prompt), (110, 4, State::Prompt)];
-    assert_eq!(rt; session.tells(Step::Lapse(110), &told), Some(true));
+    assert_eq!(rt; session.tells(&Step::Lapse(110), &told), Some(true));
 }
 
 // What is allowed once ends with its top document.
@@ -299,18 +299,18 @@ fn a_page_takes_its_setting_along(rt: HostRuntime) {
     };
     let mut session = made;
     let once = Step::Set(Feature::Camera, State::Granted, Life::Page(number(1)), 5);
-    assert_eq!(rt; session.tells(once, &[(5, 4, State::Granted)]), Some(true));
-    assert_eq!(rt; session.tells(Step::End(3, 8), &[]), Some(true));
+    assert_eq!(rt; session.tells(&once, &[(5, 4, State::Granted)]), Some(true));
+    assert_eq!(rt; session.tells(&Step::End(3, 8), &[]), Some(true));
     assert_eq!(rt;
-        session.tells(Step::End(1, 9), &[(9, 4, State::Prompt)]),
+        session.tells(&Step::End(1, 9), &[(9, 4, State::Prompt)]),
         Some(true)
     );
-    assert_eq!(rt; session.tells(Step::End(2, 9), &[]), Some(true));
+    assert_eq!(rt; session.tells(&Step::End(2, 9), &[]), Some(true));
 }
 
 impl Session {
     // Whether a setting tells these changes, the second time where memory wants.
-    fn tells_again(&mut self, step: Step, told: &[Told]) -> bool {
+    fn tells_again(&mut self, step: &Step, told: &[Told]) -> bool {
         match self.tells(step, told) {
             Some(right) => right,
             None => self.tells(step, told) == Some(true),
@@ -323,10 +323,10 @@ impl Session {
         let page = Life::Page(number(1));
         let camera = Step::Set(Feature::Camera, State::Granted, page, 10);
         let place = Step::Set(Feature::Geolocation, State::Granted, Life::Until(110), 10);
-        let set = self.tells_again(camera, &[(10, 4, State::Granted)])
-            && self.tells_again(place, &[(10, 2, State::Granted)]);
-        let lapsed = self.tells(Step::Lapse(200), &[(110, 2, State::Prompt)])?;
-        let ended = self.tells(Step::End(1, 300), &[(300, 4, State::Prompt)])?;
+        let set = self.tells_again(&camera, &[(10, 4, State::Granted)])
+            && self.tells_again(&place, &[(10, 2, State::Granted)]);
+        let lapsed = self.tells(&Step::Lapse(200), &[(110, 2, State::Prompt)])?;
+        let ended = self.tells(&Step::End(1, 300), &[(300, 4, State::Prompt)])?;
         Some(set && lapsed && ended)
     }
 }
