@@ -1,22 +1,32 @@
 -- An engine that stands for a history stands for it with one more event.
-use Rattle.std.proofs.Common.{◌≡◌, ℕ, false, [], ◌∷◌, ◌++◌, None, IsTrue, filter, refl, sym, ◌∙◌, ap, subst}
+use Rattle.std.proofs.Common.{◌≡◌, ℕ, suc, ◌≤◌, Bool, true, false, List, [], ◌∷◌, ◌++◌, map, length, None, IsTrue, refl, sym, ◌∙◌, ap, subst, arith}
 use Rattle.pe_frames.specs.Forest.{Forest}
+use Rattle.pe_store.specs.Entries.{StoreValue}
+use Rattle.pe_status.specs.declared.registered.Registered.{Registered}
+use Rattle.pe_status.specs.Registry.{Registry}
 use Rattle.pe_events.specs.declared.answer.Answer.{Answer}
 use Rattle.pe_events.specs.declared.event.Event.{Event}
+use Rattle.pe_events.specs.declared.event.Event.TheVariants as event
 use Rattle.pe_events.specs.Timed.{Timed}
 use Rattle.pe_rules.specs.History.{StepAnswer, Step, RepliedHistory, History}
-use Rattle.pe_rules.specs.Current.{is_current}
+use Rattle.pe_rules.specs.Statuses.{Status}
 use Rattle.pe_rules.specs.Causes.{cause_of}
 use Rattle.pe_rules.specs.Replies.{answer_of, replied, step_answer, is_regular, accepts, accepts_in}
-use Rattle.pe_laws.specs.HistoryLaws.{HistoryLaws}
 use Rattle.pe_laws.specs.Effects.{effects}
+use Rattle.pe_laws.specs.StatusesLaws.{Each, IsKept}
+use Rattle.pe_changes.specs.Parts.{status_of_row, IsStore, IsStatuses}
 use Rattle.pe_engine.specs.declared.row.Row.{Row}
 use Rattle.pe_engine.specs.declared.engine.Made.{Made}
 use Rattle.pe_engine.specs.declared.engine.Made.TheVariants as made
+use Rattle.pe_engine.specs.Changing.{HasNoted, KeepsRest}
+use Rattle.pe_engine.specs.Laws.{EngineLaws}
+use Rattle.pe_engine.specs.Objects.{handle_at}
 use Rattle.pe_engine.specs.Tree.{IsTree}
-use Rattle.pe_engine.specs.StandsFor.{EngineValue, IsUnset, StandsForSteps, StandsFor}
-use Rattle.pe_engine.specs.Replying.{IsAcceptance}
-use Rattle.pe_engine.proofs.Kept.{kept-silent}
+use Rattle.pe_engine.specs.StandsFor.{EngineValue, IsNamed, StandsForSteps, StandsForAt, StandsFor}
+use Rattle.pe_engine.specs.Replying.{is_plain, IsAcceptance}
+use Rattle.pe_engine.proofs.Handles.{grows}
+use Rattle.pe_engine.proofs.Kept.{kept-silent, not-itself}
+use Rattle.pe_engine.proofs.Lists.{each-all, each-unmapped}
 
 -- a step of this event
 abbrev pub step_of : Timed → StepAnswer → Step
@@ -36,86 +46,157 @@ pub record IsSilent (e : Event) (item : StepAnswer) : Type 0 where
   pub acts : (effects e item).acts_on_history ≡ false
   pub gives : (effects e item).gives_attribute ≡ false
 
+-- ---- what is noted
+
 -- the engine after a note of what the event at this time made, with this tree
 pub record IsNoted (e u : EngineValue) (now : ℕ) (m : Made) (frames : Forest Row) : Type 0 where
-  pub duration : u.duration ≡ e.duration
-  pub failed : u.failed ≡ e.failed
-  pub clock : u.clock ≡ now
-  pub made : u.made ≡ e.made ++ m ∷ []
+  pub rest : KeepsRest e u now m
   pub frames_are : u.frames ≡ frames
 
 -- from what was there, once the tree is another
 pub noted : (e u w : EngineValue) (now : ℕ) (m : Made) (frames : Forest Row) → w ≡ e
-    → u ≡ record { duration = w.duration; clock = now; failed = w.failed; made = w.made ++ m ∷ []; frames = frames } → IsNoted e u now m frames
+    → u ≡ record { duration = w.duration; clock = now; failed = w.failed; made = w.made ++ m ∷ []; frames = frames; store = w.store; statuses = w.statuses } → IsNoted e u now m frames
 noted e u w now m frames is new = record {
-  duration = ap (λ (v : EngineValue). v.duration) new ∙ ap (λ (v : EngineValue). v.duration) is;
-  failed = ap (λ (v : EngineValue). v.failed) new ∙ ap (λ (v : EngineValue). v.failed) is;
-  clock = ap (λ (v : EngineValue). v.clock) new;
-  made = ap (λ (v : EngineValue). v.made) new ∙ ap (λ (v : EngineValue). v.made ++ m ∷ []) is;
+  rest = record {
+    noted = record {
+      duration = ap (λ (v : EngineValue). v.duration) new ∙ ap (λ (v : EngineValue). v.duration) is;
+      failed = ap (λ (v : EngineValue). v.failed) new ∙ ap (λ (v : EngineValue). v.failed) is;
+      clock = ap (λ (v : EngineValue). v.clock) new;
+      made = ap (λ (v : EngineValue). v.made) new ∙ ap (λ (v : EngineValue). v.made ++ m ∷ []) is;
+    };
+    store = ap (λ (v : EngineValue). v.store) new ∙ ap (λ (v : EngineValue). v.store) is;
+    statuses = ap (λ (v : EngineValue). v.statuses) new ∙ ap (λ (v : EngineValue). v.statuses) is;
+  };
   frames_are = ap (λ (v : EngineValue). v.frames) new;
 }
 
 -- and where it is as before
 pub noted-silent : (e u w : EngineValue) (now : ℕ) (m : Made) → w ≡ e
-    → u ≡ record { duration = w.duration; clock = now; failed = w.failed; made = w.made ++ m ∷ []; frames = w.frames } → IsNoted e u now m e.frames
+    → u ≡ record { duration = w.duration; clock = now; failed = w.failed; made = w.made ++ m ∷ []; frames = w.frames; store = w.store; statuses = w.statuses } → IsNoted e u now m e.frames
 noted-silent e u w now m is new = subst (IsNoted e u now m) (ap (λ (v : EngineValue). v.frames) is) (noted e u w now m w.frames is new)
 
--- an event that touches no status and no setting
+-- ---- plain verbs
+
+-- what a plain verb does not do
 pub record IsPlain (e : Event) : Type 0 where
   pub makes : (item : StepAnswer) → (effects e item).makes_status ≡ false
   pub drops : (item : StepAnswer) → (effects e item).drops_status ≡ false
   pub sets : (item : StepAnswer) → (effects e item).sets ≡ false
   pub dismisses : (item : StepAnswer) → (effects e item).dismisses ≡ false
+  pub ends : (item : StepAnswer) → (effects e item).ends_documents ≡ false
 
-module _ (laws : HistoryLaws) where
-  unset-stays : (x : Timed) (item : StepAnswer) (T : RepliedHistory) → IsPlain x.event → IsUnset T → IsUnset (step_of x item ∷ T)
-  unset-stays x item T plain unset = record {
-    statuses = laws.statuses.live_ended (step_of x item) T (plain.drops item) (plain.makes item) ∙ ap (filter (λ y. is_current (step_of x item ∷ T) y.document)) unset.statuses;
-    settings = λ p. laws.effects.last_setting_stays (step_of x item) T p (plain.sets item) (plain.dismisses item) ∙ unset.settings p;
-  }
+pub plain-is : (e : Event) → is_plain e ≡ true → IsPlain e
+plain-is (event.OpenPage url header) h = record { makes = λ i. refl; drops = λ i. refl; sets = λ i. refl; dismisses = λ i. refl; ends = λ i. refl }
+plain-is (event.Embed parent src place allow sandbox fullscreen srcdoc header) h = record { makes = λ i. refl; drops = λ i. refl; sets = λ i. refl; dismisses = λ i. refl; ends = λ i. refl }
+plain-is (event.Navigate frame url header) h = cc
+plain-is (event.Attr frame name value) h = record { makes = λ i. refl; drops = λ i. refl; sets = λ i. refl; dismisses = λ i. refl; ends = λ i. refl }
+plain-is (event.Close frame) h = cc
+plain-is (event.Input frame kind) h = record { makes = λ i. refl; drops = λ i. refl; sets = λ i. refl; dismisses = λ i. refl; ends = λ i. refl }
+plain-is (event.Ask frame) h = record { makes = λ i. refl; drops = λ i. refl; sets = λ i. refl; dismisses = λ i. refl; ends = λ i. refl }
+plain-is (event.History frame) h = record { makes = λ i. refl; drops = λ i. refl; sets = λ i. refl; dismisses = λ i. refl; ends = λ i. refl }
+plain-is (event.PolicyOf frame feature) h = record { makes = λ i. refl; drops = λ i. refl; sets = λ i. refl; dismisses = λ i. refl; ends = λ i. refl }
+plain-is (event.Features frame) h = record { makes = λ i. refl; drops = λ i. refl; sets = λ i. refl; dismisses = λ i. refl; ends = λ i. refl }
+plain-is (event.UseCall frame call) h = cc
+plain-is (event.Query frame feature) h = cc
+plain-is (event.DropStatus status) h = cc
+plain-is (event.Request frame feature) h = cc
+plain-is (event.Answered prompt out given) h = cc
+plain-is (event.SetState feature first second state span) h = cc
+plain-is (event.Post sender target named capability) h = cc
+plain-is (event.Deliver message) h = cc
+plain-is event.Tick h = record { makes = λ i. refl; drops = λ i. refl; sets = λ i. refl; dismisses = λ i. refl; ends = λ i. refl }
 
-  -- an accepted event, whatever is told of it
-  pub accepted : (e u : EngineValue) (H : History) (x : Timed) → IsPlain x.event → StandsFor e H → cause_of (replied e.duration H) x.time x.event ≡ None
-      → u.duration ≡ e.duration → u.failed ≡ e.failed → u.clock ≡ x.time
-      → ((item : StepAnswer) → item ≡ step_answer e.duration (replied e.duration H) x.time x.event → IsTree (step_of x item ∷ replied e.duration H) u.made u.frames)
-      → StandsFor u (x ∷ H)
-  accepted e u H x plain stands none same working now tree =
+module _ (laws : EngineLaws) where
+  -- ---- statuses that stay
+
+  -- the documents of live statuses are positions of the history
+  pub documents-within : (T : RepliedHistory) (statuses : Registry) → IsStatuses T statuses → Each (λ r. r.doc.doc ≤ length T) statuses.live
+  documents-within T statuses is =
+      each-unmapped (λ (x : Status). x.document ≤ length T) status_of_row statuses.live
+      (subst (Each (λ (x : Status). x.document ≤ length T)) (sym is.live) (each-all (IsKept T) (λ (x : Status). x.document ≤ length T) _ within (laws.history.statuses.live_kept T)))
+    where
+      within : (x : Status) → IsKept T x → x.document ≤ length T
+      within x kept = let n = kept.1.0 in let d = kept.1.1.1.0 in omega arith
+
+  -- their frames keep the handles
+  pub named-stays : (s : Step) (T : RepliedHistory) (ms : List Made) (m : Made) (live : List Registered) → Each (λ r. r.doc.doc ≤ length T) live → Each (IsNamed T ms) live → Each (IsNamed (s ∷ T) (ms ++ m ∷ [])) live
+  named-stays s T ms m [] within named = tt
+  named-stays s T ms m (r ∷ live) within named = (
+    ap (handle_at (ms ++ m ∷ [])) (laws.history.making.frame_of_older s T r.doc.doc (not-itself (length T) r.doc.doc within.0)) ∙ grows ms m _ r.doc.at named.0,
+    named-stays s T ms m live within.1 named.1,
+  )
+
+  -- ---- one event more
+
+  -- the parts for which an engine stands after a step, its store at a moment
+  pub record IsParts (u : EngineValue) (T : RepliedHistory) (moment : ℕ) : Type 0 where
+    pub tree : IsTree T u.made u.frames
+    pub store : IsStore T moment u.store
+    pub statuses : IsStatuses T u.statuses
+    pub named : Each (IsNamed T u.made) u.statuses.live
+
+  -- an accepted event
+  pub stands-by-parts : (e u : EngineValue) (H : History) (x : Timed) (moment : ℕ) → IsTrue (is_regular e.duration H) → e.failed ≡ false → cause_of (replied e.duration H) x.time x.event ≡ None
+      → (m : Made) → HasNoted e u x.time m
+      → IsParts u (step_of x (step_answer e.duration (replied e.duration H) x.time x.event) ∷ replied e.duration H) moment
+      → StandsForAt u (x ∷ H) moment
+  stands-by-parts e u H x moment regular working none m noted parts =
       let T = replied e.duration H in
       let item = step_answer e.duration T x.time x.event in
       let U = step_of x item ∷ T in
-      let told : replied u.duration (x ∷ H) ≡ U = ap (λ d. replied d (x ∷ H)) same ∙ laws.steps.told_step e.duration x H in
+      let told : replied u.duration (x ∷ H) ≡ U = ap (λ d. replied d (x ∷ H)) noted.duration ∙ laws.history.steps.told_step e.duration x H in
       record {
-        regular = ap (λ d. is_regular d (x ∷ H)) same ∙ regular-on e.duration H x stands.regular none;
-        steps = subst (StandsForSteps u) (sym told) (record {
-          working = working ∙ stands.steps.working;
-          clock = now ∙ sym (laws.steps.clock_step (step_of x item) T);
-          tree = tree item refl;
-          unset = unset-stays x item T plain stands.steps.unset;
+        regular = ap (λ d. is_regular d (x ∷ H)) noted.duration ∙ regular-on e.duration H x regular none;
+        steps = subst (λ V. StandsForSteps u V moment) (sym told) (record {
+          working = noted.failed ∙ working;
+          clock = noted.clock ∙ sym (laws.history.steps.clock_step (step_of x item) T);
+          tree = parts.tree;
+          store = parts.store;
+          statuses = parts.statuses;
+          named = parts.named;
         });
       }
 
-  -- an accepted event, with its answer
-  pub accept : (e u : EngineValue) (H : History) (x : Timed) (said : Answer) → IsPlain x.event → StandsFor e H
-      → u.duration ≡ e.duration → u.failed ≡ e.failed → u.clock ≡ x.time
+  -- an accepted event of a plain verb, with its answer
+  pub accept : (e u : EngineValue) (H : History) (x : Timed) (said : Answer) (m : Made) → is_plain x.event ≡ true → StandsFor e H → KeepsRest e u x.time m
       → cause_of (replied e.duration H) x.time x.event ≡ None → said ≡ answer_of e.duration (replied e.duration H) x.time x.event
       → ((item : StepAnswer) → item ≡ step_answer e.duration (replied e.duration H) x.time x.event → IsTree (step_of x item ∷ replied e.duration H) u.made u.frames)
       → IsAcceptance e u H x said
-  accept e u H x said plain stands same working now none says tree = record {
+  accept e u H x said m plain stands keeps none says tree = record {
+    plain = plain;
     faultless = none;
     says = says;
-    unset = stands.steps.unset;
-    duration = same;
-    stands = accepted e u H x plain stands none same working now tree;
+    duration = keeps.noted.duration;
+    store = keeps.store;
+    statuses = keeps.statuses;
+    stands = stands-by-parts e u H x e.clock stands.regular stands.steps.working none m keeps.noted (record {
+      tree = tree item refl;
+      store = subst (IsStore (s ∷ T) e.clock) (sym keeps.store) (laws.stores.quiet s T e.clock e.store (quiet.sets item) (quiet.dismisses item) (quiet.ends item) stands.steps.store);
+      statuses = subst (IsStatuses (s ∷ T)) (sym keeps.statuses) (laws.statuses.quiet s T e.statuses (quiet.makes item) (quiet.drops item) (quiet.ends item) stands.steps.statuses);
+      named = rw (keeps.statuses, keeps.noted.made) (named-stays s T e.made m e.statuses.live (documents-within T e.statuses stands.steps.statuses) stands.steps.named);
+    });
   }
+    where
+      T : RepliedHistory
+      T = replied e.duration H
 
-  -- an accepted event that changes no document
-  pub accept-silent : (e u : EngineValue) (H : History) (x : Timed) (said : Answer) → IsPlain x.event → IsSilent x.event (step_answer e.duration (replied e.duration H) x.time x.event) → StandsFor e H
+      item : StepAnswer
+      item = step_answer e.duration T x.time x.event
+
+      s : Step
+      s = step_of x item
+
+      quiet : IsPlain x.event
+      quiet = plain-is x.event plain
+
+  -- one that changes no document
+  pub accept-silent : (e u : EngineValue) (H : History) (x : Timed) (said : Answer) → is_plain x.event ≡ true → IsSilent x.event (step_answer e.duration (replied e.duration H) x.time x.event) → StandsFor e H
       → IsNoted e u x.time made.Nothing e.frames
       → cause_of (replied e.duration H) x.time x.event ≡ None → said ≡ answer_of e.duration (replied e.duration H) x.time x.event
       → IsAcceptance e u H x said
   accept-silent e u H x said plain silent stands noted none says =
-      accept e u H x said plain stands noted.duration noted.failed noted.clock none says (λ item is.
-      rw (noted.made, noted.frames_are) (by_item item (subst (IsSilent x.event) (sym is) silent)))
+      accept e u H x said made.Nothing plain stands noted.rest none says (λ item is.
+      rw (noted.rest.noted.made, noted.frames_are) (by_item item (subst (IsSilent x.event) (sym is) silent)))
     where
       by_item : (item : StepAnswer) → IsSilent x.event item → IsTree (step_of x item ∷ replied e.duration H) (e.made ++ made.Nothing ∷ []) e.frames
-      by_item item quiet = kept-silent laws (step_of x item) (replied e.duration H) e.made made.Nothing e.frames refl quiet.frames quiet.documents quiet.ends quiet.activates quiet.consumes quiet.acts quiet.gives stands.steps.tree
+      by_item item quiet = kept-silent laws.history (step_of x item) (replied e.duration H) e.made made.Nothing e.frames refl quiet.frames quiet.documents quiet.ends quiet.activates quiet.consumes quiet.acts quiet.gives stands.steps.tree

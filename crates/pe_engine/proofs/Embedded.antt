@@ -31,6 +31,7 @@ use Rattle.pe_engine.specs.declared.engine.Made.{Made}
 use Rattle.pe_engine.specs.declared.engine.Made.TheVariants as made
 use Rattle.pe_engine.specs.Objects.{handle_at}
 use Rattle.pe_engine.specs.Rows.{IsRow, IsSettled, kept_attributes}
+use Rattle.pe_engine.specs.Laws.{EngineLaws}
 use Rattle.pe_engine.specs.Making.{IsChildRow}
 use Rattle.pe_engine.specs.Tree.{IsNode}
 use Rattle.pe_engine.specs.Changing.{HasOpened}
@@ -65,7 +66,10 @@ stands-so : (b : Bool) → is_some (standing b) ≡ b
 stands-so true = refl
 stands-so false = refl
 
-module _ (laws : HistoryLaws) where
+module _ (engine_laws : EngineLaws) where
+  abbrev laws : HistoryLaws
+  laws = engine_laws.history
+
   attribute-of : (now parent : ℕ) (src pl allow sandbox : Option (List ℕ)) (fullscreen srcdoc : Bool) (header : Option (List ℕ)) (item : StepAnswer) (T : RepliedHistory) (n : AttrName)
       → attribute (step_of (timed now (event.Embed parent src pl allow sandbox fullscreen srcdoc header)) item ∷ T) (suc (length T)) n
       ≡ value_given n (record { src = src; srcdoc = srcdoc; allow = allow; sandbox = sandbox; fullscreen = fullscreen })
@@ -98,9 +102,9 @@ module _ (laws : HistoryLaws) where
       → IsAcceptance e u H (timed now (event.Embed parent src pl allow sandbox fullscreen srcdoc header)) (answer.FrameMade number number x.origin)
   unfolding frames_above answer_of new_origin making_by
   accept-embed e u H now number parent src pl allow sandbox fullscreen srcdoc header h y place a x stands at handle found named given none row opened =
-      accept laws e u H (timed now v) (answer.FrameMade number number x.origin) (record { makes = λ i. refl; drops = λ i. refl; sets = λ i. refl; dismisses = λ i. refl }) stands
-      opened.duration opened.failed opened.clock none says
-      (λ item is. rw opened.made (kept-made laws (step item) T e.made e.frames u.frames opened.handle (path_of e.frames.entries h) (record x { attributes = a }) refl refl (frame item) (λ fs. refl) (others item) opened.fresh opened.marks
+      accept engine_laws e u H (timed now v) (answer.FrameMade number number x.origin) (made.Frame opened.handle) refl stands
+      opened.rest none says
+      (λ item is. rw opened.rest.noted.made (kept-made laws (step item) T e.made e.frames u.frames opened.handle (path_of e.frames.entries h) (record x { attributes = a }) refl refl (frame item) (λ fs. refl) (others item) opened.fresh opened.marks
       (row.new.doc ∙ number-is) (new item) (way item) (opened.entries ∙ ap (λ n. record { handle = opened.handle; above = path_of e.frames.entries h; frame = n; doc = record x { attributes = a } } ∷ e.frames.entries) number-is) stands.steps.tree))
     where
       T : RepliedHistory

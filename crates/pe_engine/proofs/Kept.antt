@@ -33,7 +33,7 @@ flip : (b : Bool) → not b ≡ true → b ≡ false
 flip true h = sym h
 flip false h = refl
 
-not-itself : (n d : ℕ) → d ≤ n → d ≢ suc n
+pub not-itself : (n d : ℕ) → d ≤ n → d ≢ suc n
 not-itself n d h e = absurd (omega arith)
 
 module _ (laws : HistoryLaws) where

@@ -18,3 +18,7 @@ pub mod NoChanges
 pub mod Embedded
 pub mod Navigated
 pub mod Promised
+pub mod Governing
+pub mod Passed
+pub mod Gone
+pub mod Ended

@@ -15,6 +15,20 @@ module _ {A : Type 0} where
   each-map P Q g [] f h = tt
   each-map P Q g (x ∷ xs) f h = (f x h.0, each-map P Q g xs f h.1)
 
+  -- of those that pass, by the test alone
+  pub each-passed : (Q : A → Type 0) (p : A → Bool) (xs : List A) → ((x : A) → p x ≡ true → Q x) → Each Q (filter p xs)
+  each-passed Q p [] f = tt
+  each-passed Q p (x ∷ xs) f = (elim (p x) as (λ b. p x ≡ b → Each Q (cond b (x ∷ filter p xs) (filter p xs))) [ true ↦ λ e. (f x e, each-passed Q p xs f) | false ↦ λ e. each-passed Q p xs f ]) refl
+
+  pub each-both : (P Q : A → Type 0) (xs : List A) → Each P xs → Each Q xs → Each (λ x. P x × Q x) xs
+  each-both P Q [] g h = tt
+  each-both P Q (x ∷ xs) g h = ((g.0, h.0), each-both P Q xs g.1 h.1)
+
+  -- of the elements behind a look
+  pub each-unmapped : {B : Type 0} (Q : B → Type 0) (g : A → B) (xs : List A) → Each Q (map g xs) → Each (λ x. Q (g x)) xs
+  each-unmapped Q g [] h = tt
+  each-unmapped Q g (x ∷ xs) h = (h.0, each-unmapped Q g xs h.1)
+
   pub each-all : (P Q : A → Type 0) (xs : List A) → ((x : A) → P x → Q x) → Each P xs → Each Q xs
   each-all P Q [] f h = tt
   each-all P Q (x ∷ xs) f h = (f x h.0, each-all P Q xs f h.1)

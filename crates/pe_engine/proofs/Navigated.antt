@@ -1,5 +1,5 @@
 -- A frame that is navigated.
-use Rattle.std.proofs.Common.{◌≡◌, ℕ, suc, ◌+◌, Bool, true, false, not, ◌||◌, List, [], ◌∷◌, map, length, Option, Some, None, is_some, unwrap_or, option_map, option_and_then, refl, sym, ◌∙◌, ap, arith, cond, true≢false}
+use Rattle.std.proofs.Common.{◌≡◌, ℕ, suc, ◌+◌, Bool, true, false, not, ◌||◌, List, [], ◌∷◌, ◌++◌, map, length, Option, Some, None, is_some, unwrap_or, option_map, option_and_then, refl, sym, ◌∙◌, ap, arith, cond, true≢false}
 use Rattle.std.specs.Prelude.{filter, IfOk, Result, Ok, Err}
 use Rattle.pe_arena.specs.declared.handle.Handle.{Handle}
 use Rattle.pe_frames.specs.declared.node.Node.{Node}
@@ -19,7 +19,7 @@ use Rattle.pe_rules.specs.Origins.{origin_of, place_or_none, no_place}
 use Rattle.pe_rules.specs.Activation.{stamp_of}
 use Rattle.pe_rules.specs.HistoryActivation.{second_stamp_of}
 use Rattle.pe_rules.specs.Settings.{setting_named, setting_by}
-use Rattle.pe_rules.specs.Causes.{cause_of, has_bad_url, has_bad_feature, has_bad_call, has_bad_capability, names_other_page, exceeds_pages, exceeds_depth, exceeds_frames, exceeds_statuses, exceeds_pending, exceeds_store}
+use Rattle.pe_rules.specs.Causes.{has_bad_url, has_bad_feature, has_bad_call, has_bad_capability, names_other_page, exceeds_pages, exceeds_depth, exceeds_frames, exceeds_statuses, exceeds_pending, exceeds_store}
 use Rattle.pe_rules.specs.Replies.{answer_of, new_origin, replied}
 use Rattle.pe_laws.specs.HistoryLaws.{HistoryLaws}
 use Rattle.pe_engine.specs.declared.row.Row.{Row}
@@ -28,10 +28,10 @@ use Rattle.pe_engine.specs.Causes.{other_cause}
 use Rattle.pe_engine.specs.Objects.{handle_at}
 use Rattle.pe_engine.specs.Rows.{IsRow, IsShown, IsSettled, IsEmbedder, kept_attributes}
 use Rattle.pe_engine.specs.Making.{IsNew, IsTopRow, IsChildRow}
-use Rattle.pe_engine.specs.Tree.{IsNode}
+use Rattle.pe_engine.specs.Tree.{IsNode, IsTree}
 use Rattle.pe_engine.specs.StandsFor.{EngineValue, StandsFor}
-use Rattle.pe_engine.specs.Replying.{timed, IsAcceptance}
-use Rattle.pe_engine.proofs.Accepted.{step_of, IsNoted, accept}
+use Rattle.pe_engine.specs.Replying.{timed}
+use Rattle.pe_engine.proofs.Accepted.{step_of}
 use Rattle.pe_engine.proofs.CommonCauses.{shown-at}
 use Rattle.pe_engine.proofs.Kept.{kept-navigation, document-within}
 use Rattle.pe_engine.proofs.Look.{node-at, last-of, live-at, IsAbove, above-at}
@@ -143,17 +143,16 @@ navigated-anyway h x d (y ∷ es) = by_left (same_handle y.handle h || not (is_u
 -- ---- the answer
 
 module _ (laws : HistoryLaws) where
-  pub accept-nav : (e u : EngineValue) (H : History) (now number f : ℕ) (url : List ℕ) (header : Option (List ℕ)) (h : Handle) (y : Entry Row) (x : Row) (v : Forest Row)
+  -- the answer, and the tree with the new document
+  pub navigation : (e : EngineValue) (H : History) (now number f : ℕ) (url : List ℕ) (header : Option (List ℕ)) (h : Handle) (y : Entry Row) (x : Row) (v : Forest Row)
       → StandsFor e H → number ≡ length e.made + 1 → handle_at e.made f ≡ Some h → entry_of e.frames.entries h ≡ Some y
-      → cause_of (replied e.duration H) now (event.Navigate f url header) ≡ None
       → IsNew number x → ((item : StepAnswer) → IsSettled (record { time = now; event = event.Navigate f url header; item = item } ∷ replied e.duration H) x)
-      → v.entries ≡ navigated h (record x { attributes = y.doc.attributes }) e.frames.entries → v.marks ≡ e.frames.marks → IsNoted e u now made.Doc v
-      → IsAcceptance e u H (timed now (event.Navigate f url header)) (answer.DocMade number x.origin)
+      → v.entries ≡ navigated h (record x { attributes = y.doc.attributes }) e.frames.entries → v.marks ≡ e.frames.marks
+      → (answer.DocMade number x.origin ≡ answer_of e.duration (replied e.duration H) now (event.Navigate f url header))
+      × ((item : StepAnswer) → IsTree (step_of (timed now (event.Navigate f url header)) item ∷ replied e.duration H) (e.made ++ made.Doc ∷ []) v)
   unfolding answer_of new_origin
-  accept-nav e u H now number f url header h y x v stands at handle found none fresh settled entries marks noted =
-      accept laws e u H (timed now (event.Navigate f url header)) (answer.DocMade number x.origin) (record { makes = λ i. refl; drops = λ i. refl; sets = λ i. refl; dismisses = λ i. refl }) stands
-      noted.duration noted.failed noted.clock none says
-      (λ item is. rw (noted.made, noted.frames_are) (kept-navigation laws (step item) T e.made e.frames v f url header h (record x { attributes = y.doc.attributes }) refl handle live (again item) (fresh.doc ∙ number-is) (new item) entries marks stands.steps.tree))
+  navigation e H now number f url header h y x v stands at handle found fresh settled entries marks =
+      (says, λ item. kept-navigation laws (step item) T e.made e.frames v f url header h (record x { attributes = y.doc.attributes }) refl handle live (again item) (fresh.doc ∙ number-is) (new item) entries marks stands.steps.tree)
     where
       T : RepliedHistory
       T = replied e.duration H

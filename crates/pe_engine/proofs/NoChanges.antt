@@ -1,43 +1,88 @@
--- Replies without changes.
-use Rattle.std.proofs.Common.{◌≡◌, ℕ, List, [], ◌∷◌, refl, sym, ◌∙◌, subst}
-use Rattle.std.specs.List.{flat_map}
+-- Replies to plain events, and to events that are refused.
+use Rattle.std.proofs.Common.{◌≡◌, ℕ, ◌≤◌, false, List, [], ◌∷◌, length, Ok, refl, sym, ◌∙◌, ap, subst, arith}
+use Rattle.std.specs.Global.{Vec}
+use Rattle.std.proofs.lemmas.Bool.Decides.{nat_tests}
 use Rattle.pe_events.specs.declared.answer.Answer.{Answer}
 use Rattle.pe_events.specs.declared.answer.Answer.TheVariants as answer
+use Rattle.pe_events.specs.declared.answer.Change.{Change}
 use Rattle.pe_events.specs.declared.cause.Cause.{Cause}
 use Rattle.pe_events.specs.Timed.{Timed}
-use Rattle.pe_rules.specs.History.{RepliedHistory, History}
-use Rattle.pe_rules.specs.Statuses.{live_statuses}
-use Rattle.pe_rules.specs.Changes.{changes_at, changes_before, changes_after}
+use Rattle.pe_rules.specs.History.{StepAnswer, Step, RepliedHistory, History, clock}
+use Rattle.pe_rules.specs.Changes.{changes_after}
+use Rattle.pe_rules.specs.Replies.{replied, step_answer}
+use Rattle.pe_changes.specs.Parts.{IsStore, IsStatuses, AreGoverned}
 use Rattle.pe_engine.specs.declared.replies.Replies.{Replies}
-use Rattle.pe_engine.specs.Replying.{steps_of, IsAcceptance, IsRefusal}
-use Rattle.pe_engine.specs.StandsFor.{EngineValue}
+use Rattle.pe_engine.specs.declared.row.Row.{Row}
+use Rattle.pe_engine.specs.Laws.{EngineLaws}
+use Rattle.pe_engine.specs.Replying.{steps_of, IsAcceptance, IsRefusal, IsAcceptedReply, IsReplied}
+use Rattle.pe_engine.specs.Rows.{blocks}
+use Rattle.pe_laws.specs.StatusesLaws.{Each}
+use Rattle.pe_engine.specs.Tree.{IsTree}
+use Rattle.pe_engine.specs.StandsFor.{EngineValue, IsNamed, StandsForSteps, StandsForAt, StandsFor}
 use Rattle.pe_engine.specs.Stepping.{IsReplyBy, IsReply}
+use Rattle.pe_engine.proofs.Accepted.{step_of, IsPlain, plain-is, documents-within}
+use Rattle.pe_engine.proofs.Governing.{all-governed, governed-before}
+use Rattle.pe_engine.proofs.Passed.{BringsChanges, LeavesStore}
 
-flat-none : {A B : Type 0} (f : A → List B) (xs : List A) → ((x : A) → f x ≡ []) → flat_map f xs ≡ []
-flat-none f [] none = refl
-flat-none f (x ∷ xs) none = rw (none x, flat-none f xs none) refl
-
-at-none : (T : RepliedHistory) (now : ℕ) → live_statuses T ≡ [] → changes_at T now ≡ []
-unfolding changes_at
-at-none T now none = rw none refl
-
-before-none : (T : RepliedHistory) (now : ℕ) → live_statuses T ≡ [] → changes_before T now ≡ []
-unfolding changes_before
-before-none T now none = flat-none (changes_at T) _ (λ t. at-none T t none)
-
-after-none : (T U : RepliedHistory) (now : ℕ) → live_statuses T ≡ [] → changes_after T U now ≡ []
-unfolding changes_after
-after-none T U now none = rw none refl
-
-pub reply-accepted : (old new : EngineValue) (H : History) (e : Timed) (said : Answer) (reply : Replies) → IsAcceptance old new H e said → reply.answer ≡ said → reply.before.items ≡ [] → reply.after.items ≡ [] → IsReply old new H e reply
-reply-accepted old new H e said reply is says before after =
-    subst (IsReplyBy old new H e reply) (sym is.faultless) (record {
-      says = says ∙ is.says;
-      before = before ∙ sym (before-none (steps_of old H) e.time is.unset.statuses);
-      after = after ∙ sym (after-none (steps_of old H) (steps_of old (e ∷ H)) e.time is.unset.statuses);
-      duration = is.duration;
-      stands = is.stands;
-    })
+pub reply-accepted : (old new : EngineValue) (H : History) (e : Timed) (reply : Replies) → IsReplied old new H e (Ok reply) → IsReply old new H e reply
+reply-accepted old new H e reply is = subst (IsReplyBy old new H e reply) (sym is.0) is.1
 
 pub reply-refused : (old new : EngineValue) (H : History) (e : Timed) (why : Cause) (reply : Replies) → IsRefusal old new H e why → reply.answer ≡ answer.Refused why → reply.before.items ≡ [] → reply.after.items ≡ [] → IsReply old new H e reply
 reply-refused old new H e why reply is says before after = subst (IsReplyBy old new H e reply) (sym is.first) (record { says = says; before = before; after = after; kept = is.kept })
+
+module _ (laws : EngineLaws) where
+  -- a plain event that was answered, once the time has passed
+  pub accepted-late : (e w u : EngineValue) (H : History) (x : Timed) (said : Answer) (before after : Vec Change) → StandsFor e H → IsAcceptance e w H x said
+      → u ≡ record w { store = u.store } → BringsChanges w x.time before → LeavesStore w x.time u.store → after.items ≡ []
+      → IsReplied e u H x (Ok (record { before = before; answer = said; after = after }))
+  accepted-late e w u H x said before after s is rest brings leaves empty = (is.faultless, record {
+    says = is.says;
+    before = brings T in-time store statuses (governed-before laws.history step T w.frames.entries w.statuses.live (documents-within laws T w.statuses statuses) governed);
+    after = empty ∙ sym (ap (λ U. changes_after T U x.time) told ∙ laws.history.changes.none_after step T x.time (quiet.sets item) (quiet.dismisses item) (quiet.ends item));
+    duration = ap (λ (v : EngineValue). v.duration) rest ∙ is.duration;
+    stands = subst (λ (v : EngineValue). StandsForAt v (x ∷ H) v.clock) (sym rest) (record {
+      regular = is.stands.regular;
+      steps = subst (λ U. StandsForSteps (record w { store = u.store }) U w.clock) (sym told-now) (record {
+        working = is.stands.steps.working;
+        clock = is.stands.steps.clock ∙ ap clock told-now;
+        tree = subst (λ U. IsTree U w.made w.frames) told-now is.stands.steps.tree;
+        store = subst (λ t. IsStore (step ∷ T) t u.store) (sym clocked) (laws.stores.quiet step T x.time u.store (quiet.sets item) (quiet.dismisses item) (quiet.ends item) (leaves T in-time store));
+        statuses = subst (λ U. IsStatuses U w.statuses) told-now is.stands.steps.statuses;
+        named = subst (λ U. Each (IsNamed U w.made) w.statuses.live) told-now is.stands.steps.named;
+      });
+    });
+  })
+    where
+      T : RepliedHistory
+      T = replied e.duration H
+
+      item : StepAnswer
+      item = step_answer e.duration T x.time x.event
+
+      step : Step
+      step = step_of x item
+
+      quiet : IsPlain x.event
+      quiet = plain-is x.event is.plain
+
+      told : replied e.duration (x ∷ H) ≡ step ∷ T
+      told = laws.history.steps.told_step e.duration x H
+
+      told-now : replied w.duration (x ∷ H) ≡ step ∷ T
+      told-now = ap (λ d. replied d (x ∷ H)) is.duration ∙ told
+
+      clocked : w.clock ≡ x.time
+      clocked = is.stands.steps.clock ∙ ap clock told-now ∙ laws.history.steps.clock_step step T
+
+      in-time : clock T ≤ x.time
+      in-time = let back = (laws.history.causes.accepted T x.time x.event is.faultless).in_time in grind (arith, nat_tests)
+
+      store : IsStore T (clock T) w.store
+      store = subst (IsStore T (clock T)) (sym is.store) (subst (λ t. IsStore T t e.store) s.steps.clock s.steps.store)
+
+      statuses : IsStatuses T w.statuses
+      statuses = subst (IsStatuses T) (sym is.statuses) s.steps.statuses
+
+      governed : AreGoverned (step ∷ T) (λ (y : Row). y.doc) blocks w.frames.entries w.statuses.live
+      governed = subst (λ U. AreGoverned U (λ (y : Row). y.doc) blocks w.frames.entries w.statuses.live) told-now
+          (all-governed laws.history w.duration (x ∷ H) w.made w.frames w.statuses is.stands.regular is.stands.steps.tree is.stands.steps.statuses is.stands.steps.named)

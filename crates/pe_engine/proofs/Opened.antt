@@ -21,6 +21,7 @@ use Rattle.pe_engine.specs.declared.row.Row.{Row}
 use Rattle.pe_engine.specs.declared.engine.Made.TheVariants as made
 use Rattle.pe_engine.specs.Objects.{handle_at}
 use Rattle.pe_engine.specs.Rows.{IsRow, IsSettled, kept_attributes}
+use Rattle.pe_engine.specs.Laws.{EngineLaws}
 use Rattle.pe_engine.specs.Making.{IsTopRow}
 use Rattle.pe_engine.specs.Tree.{IsNode}
 use Rattle.pe_engine.specs.Changing.{HasOpened}
@@ -59,17 +60,20 @@ open-says duration T now number url header x at doc settled =
     ap (λ o. answer.FrameMade number number o) (settled.origin ∙ ap (origin_of (step_of (timed now (event.OpenPage url header)) (Replied answer.Done) ∷ T)) (doc ∙ at ∙ plus))
     ∙ ap (λ n. answer.FrameMade n n (origin_of (step_of (timed now (event.OpenPage url header)) (Replied answer.Done) ∷ T) (length T + 1))) (at ∙ plus)
 
-module _ (laws : HistoryLaws) where
+module _ (engine_laws : EngineLaws) where
+  abbrev laws : HistoryLaws
+  laws = engine_laws.history
+
   pub accept-open : (e u : EngineValue) (H : History) (now number : ℕ) (url : List ℕ) (header : Option (List ℕ)) (place : Place) (x : Row) → StandsFor e H
       → number ≡ length e.made + 1 → place_at url ≡ Some place → cause_of (replied e.duration H) now (event.OpenPage url header) ≡ None
       → IsTopRow number place header x → HasOpened e u now [] number x
       → IsAcceptance e u H (timed now (event.OpenPage url header)) (answer.FrameMade number number x.origin)
   unfolding frames_above
   accept-open e u H now number url header place x stands at named none row opened =
-      accept laws e u H (timed now (event.OpenPage url header)) (answer.FrameMade number number x.origin) (record { makes = λ i. refl; drops = λ i. refl; sets = λ i. refl; dismisses = λ i. refl }) stands
-      opened.duration opened.failed opened.clock none
+      accept engine_laws e u H (timed now (event.OpenPage url header)) (answer.FrameMade number number x.origin) (made.Frame opened.handle) refl stands
+      opened.rest none
       (open-says e.duration T now number url header x number-is row.new.doc (settled (Replied answer.Done)))
-      (λ item is. rw opened.made (kept-made laws (step item) T e.made e.frames u.frames opened.handle [] x refl refl (frame item) (λ fs. refl) (others item) opened.fresh opened.marks
+      (λ item is. rw opened.rest.noted.made (kept-made laws (step item) T e.made e.frames u.frames opened.handle [] x refl refl (frame item) (λ fs. refl) (others item) opened.fresh opened.marks
       (row.new.doc ∙ number-is) (new item) (path item) (opened.entries ∙ ap (λ n. record { handle = opened.handle; above = []; frame = n; doc = x } ∷ e.frames.entries) number-is) stands.steps.tree))
     where
       T : RepliedHistory

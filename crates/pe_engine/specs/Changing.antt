@@ -5,18 +5,29 @@ use Rattle.pe_arena.specs.declared.handle.Handle.{Handle}
 use Rattle.pe_frames.specs.Forest.{opened, mark_of, Gives}
 use Rattle.pe_engine.specs.declared.attribute.Attribute.{Attribute}
 use Rattle.pe_engine.specs.declared.attribute.Attribute.TheVariants.{Src, Srcdoc, Allow, Sandbox, Fullscreen}
+use Rattle.pe_engine.specs.declared.engine.Made.{Made}
 use Rattle.pe_engine.specs.declared.engine.Made.TheVariants as made
 use Rattle.pe_engine.specs.declared.row.Attributes.{Attributes}
 use Rattle.pe_engine.specs.declared.row.Row.{Row}
 use Rattle.pe_engine.specs.StandsFor.{EngineValue}
 
--- a frame of this number was made at a time, below these, with this row
-pub record HasOpened (old new : EngineValue) (now : ℕ) (above : List Handle) (number : ℕ) (row : Row) : Type 0 where
+-- it is noted that the event at this time made this
+pub record HasNoted (old new : EngineValue) (now : ℕ) (thing : Made) : Type 0 where
   pub duration : new.duration ≡ old.duration
   pub failed : new.failed ≡ old.failed
   pub clock : new.clock ≡ now
+  pub made : new.made ≡ old.made ++ thing ∷ []
+
+-- it is, and all but the tree is as before
+pub record KeepsRest (old new : EngineValue) (now : ℕ) (thing : Made) : Type 0 where
+  pub noted : HasNoted old new now thing
+  pub store : new.store ≡ old.store
+  pub statuses : new.statuses ≡ old.statuses
+
+-- a frame of this number was made at a time, below these, with this row
+pub record HasOpened (old new : EngineValue) (now : ℕ) (above : List Handle) (number : ℕ) (row : Row) : Type 0 where
   pub handle : Handle
-  pub made : new.made ≡ old.made ++ made.Frame handle ∷ []
+  pub rest : KeepsRest old new now (made.Frame handle)
   pub entries : new.frames.entries ≡ opened handle above number row old.frames.entries
   pub fresh : handle.generation ≡ mark_of old.frames handle.slot
   pub marks : Gives old.frames new.frames handle

@@ -11,3 +11,5 @@ pub mod Changing
 pub mod Stepping
 pub mod Embedding
 pub mod Promises
+pub mod Laws
+pub mod Leaving

@@ -1,8 +1,9 @@
 -- What the row of a document says of it.
 -- This project's own: each field is the value that the definitions give.
-use Rattle.std.specs.Prelude.{◌≡◌, ℕ, false, List, ◌∷◌, Option, Some, None, option_map}
+use Rattle.std.specs.Prelude.{◌≡◌, ℕ, Bool, false, not, ◌||◌, List, ◌∷◌, Option, Some, None, is_some, option_map}
+use Rattle.pe_features.specs.declared.feature.Feature.{Feature}
 use Rattle.pe_policy.specs.Links.{ChainDocument, end_of_chain}
-use Rattle.pe_policy.specs.PolicyValue.{PolicyValue, IsPolicyOf}
+use Rattle.pe_policy.specs.PolicyValue.{PolicyValue, IsPolicyOf, row_of}
 use Rattle.pe_origin.specs.declared.origin.Origin.{Origin}
 use Rattle.pe_store.specs.declared.key.Key.TheVariants as key
 use Rattle.pe_rules.specs.History.{RepliedHistory}
@@ -33,6 +34,10 @@ pub record HasPolicy (T : RepliedHistory) (d : ℕ) (policy : PolicyValue) : Typ
   pub chained : chain_documents T d ≡ top ∷ rest
   pub last : end_of_chain top rest ≡ chain_document T d
   pub stands : IsPolicyOf policy top rest
+
+-- the row knows that its document is denied the feature, whatever is stored
+abbrev pub blocks : Row → Feature → Bool
+blocks x feature = not x.secure || is_some (row_of x.policy feature).denial
 
 -- the origin of the top document of a document's page
 abbrev pub top_origin : RepliedHistory → ℕ → Origin

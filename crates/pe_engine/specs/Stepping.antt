@@ -1,7 +1,7 @@
 -- What a step of the engine replies.
 -- This project's own.
 -- A line here for each verb that is built; an event of another verb is refused as no line of the grammar.
-use Rattle.std.specs.Prelude.{◌≡◌, Bool, true, false, [], ◌∷◌, Option, Some, None}
+use Rattle.std.specs.Prelude.{◌≡◌, Bool, true, [], Option, Some, None}
 use Rattle.pe_events.specs.declared.answer.Answer.TheVariants as answer
 use Rattle.pe_events.specs.declared.cause.Cause.{Cause}
 use Rattle.pe_events.specs.declared.cause.Cause.TheVariants as cause
@@ -10,34 +10,15 @@ use Rattle.pe_events.specs.declared.event.Event.TheVariants as event
 use Rattle.pe_events.specs.Timed.{Timed}
 use Rattle.pe_rules.specs.History.{History}
 use Rattle.pe_rules.specs.Causes.{cause_of}
-use Rattle.pe_rules.specs.Changes.{changes_before, changes_after}
-use Rattle.pe_rules.specs.Replies.{answer_of}
 use Rattle.pe_engine.specs.declared.replies.Replies.{Replies}
-use Rattle.pe_engine.specs.Replying.{steps_of}
-use Rattle.pe_engine.specs.StandsFor.{EngineValue, StandsFor}
+use Rattle.pe_engine.specs.Replying.{steps_of, is_plain, IsAcceptedReply}
+use Rattle.pe_engine.specs.StandsFor.{EngineValue}
 
 -- the verb is built
 abbrev pub is_answered : Event → Bool
-is_answered (event.OpenPage url header) = true
-is_answered (event.Embed parent src place allow sandbox fullscreen srcdoc header) = true
 is_answered (event.Navigate frame url header) = true
-is_answered (event.Attr frame name value) = true
 is_answered (event.Close frame) = true
-is_answered (event.Input frame kind) = true
-is_answered (event.Ask frame) = true
-is_answered (event.History frame) = true
-is_answered (event.PolicyOf frame feature) = true
-is_answered (event.Features frame) = true
-is_answered event.Tick = true
-is_answered other = false
-
--- the event is accepted: the answer and both lists of changes are those of the definitions, and the engine stands for the history with it, with the duration as it was
-pub record IsAcceptedReply (old new : EngineValue) (H : History) (e : Timed) (reply : Replies) : Type 0 where
-  pub says : reply.answer ≡ answer_of old.duration (steps_of old H) e.time e.event
-  pub before : reply.before.items ≡ changes_before (steps_of old H) e.time
-  pub after : reply.after.items ≡ changes_after (steps_of old H) (steps_of old (e ∷ H)) e.time
-  pub duration : new.duration ≡ old.duration
-  pub stands : StandsFor new (e ∷ H)
+is_answered other = is_plain other
 
 -- the event is refused for this cause, without a change, and the engine is as before
 pub record IsRefusedReply (old new : EngineValue) (reply : Replies) (why : Cause) : Type 0 where

@@ -3,10 +3,13 @@ ghost use Rattle.std.specs.Prelude.{◌≡◌, ◌+◌, ◌-◌, ◌^◌, ◌<�
 ghost use Rattle.pe_base.specs.declared.limits.TheConstants.{EVENT_LIMIT};
 ghost use Rattle.pe_engine.specs.Objects.{handle_at};
 
+use crate::laws::engine_laws;
 use crate::row::Row;
 use pe_arena::Handle;
 use pe_base::Millis;
 use pe_frames::Frames;
+use pe_status::Statuses;
+use pe_store::Store;
 use std::alloc::{AllocError, Global};
 use std::marker::Model;
 
@@ -36,6 +39,8 @@ pub struct Engine {
     pub(crate) failed: bool,
     pub(crate) made: Vec<Made>,
     pub(crate) frames: Frames<Row>,
+    pub(crate) store: Store,
+    pub(crate) statuses: Statuses,
 }
 
 impl Model for Engine {
@@ -45,7 +50,7 @@ impl Model for Engine {
 
     ghost Value = { EngineValue };
 
-    ghost view = { λ e. record { duration = e.duration; clock = e.clock; failed = e.failed; made = e.made.items; frames = e.frames } };
+    ghost view = { λ e. record { duration = e.duration; clock = e.clock; failed = e.failed; made = e.made.items; frames = e.frames; store = e.store; statuses = e.statuses } };
 
     ghost invariant = { λ e. (length e.made.items ≤ EVENT_LIMIT) × (e.frames.made ≤ length e.made.items) };
 }
@@ -62,6 +67,7 @@ impl Engine {
         ensures duration { result.duration ≡ duration }
         ensures stands { StandsFor result [] }
     {
+        engine_laws();
         Engine {
             alloc,
             duration,
@@ -69,6 +75,8 @@ impl Engine {
             failed: false,
             made: Vec::new(alloc),
             frames: Frames::new(alloc),
+            store: Store::new(alloc),
+            statuses: Statuses::new(alloc),
         }
     }
 

@@ -3,8 +3,11 @@
 
 mod attribute;
 mod engine;
+mod laws;
+mod leaving;
 mod making;
 mod named;
+mod passing;
 mod refusal;
 mod replies;
 mod row;

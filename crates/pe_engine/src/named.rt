@@ -13,11 +13,11 @@ ghost use Rattle.pe_engine.specs.Rows.{IsShown};
 ghost use Rattle.pe_engine.specs.StandsFor.{StandsFor};
 
 use crate::engine::Engine;
+use crate::laws::engine_laws;
 use crate::row::Row;
 use pe_arena::Handle;
 use pe_base::{EVENT_LIMIT, Millis, Steps};
 use pe_events::Cause;
-use pe_laws::history_laws;
 use std::sync::ledger::Ledger;
 
 impl Engine {
@@ -28,8 +28,9 @@ impl Engine {
         ensures none { (H : History) → StandsFor self.now H → IfOk result (λ number. time_cause (replied self.now.duration H) now ≡ None) }
         ensures number { IfOk result (λ number. number ≡ length self.now.made + 1) }
         ensures few { IfOk result (λ number. number ≤ EVENT_LIMIT) }
+        ensures late { IfOk result (λ number. self.now.clock ≤ now) }
     {
-        history_laws();
+        engine_laws();
         let count = self.made.len();
         if count >= EVENT_LIMIT as usize {
             return Err(Cause::LimitEvents);
@@ -48,7 +49,7 @@ impl Engine {
         ensures handle { IfOk result (λ h. handle_at self.now.made frame ≡ Some h) }
         ensures found { IfOk result (λ h. IsSome (entry_of self.now.frames.entries h)) }
     {
-        history_laws();
+        engine_laws();
         let Some(h) = self.handle(frame) else {
             return Err(Cause::Unknown);
         };
@@ -65,6 +66,7 @@ impl Engine {
         ensures rest { (H : History) (e : Event) → StandsFor self.now H → frame_named e ≡ Some frame → IfOk result (λ found. cause_of (replied self.now.duration H) now e ≡ other_cause (replied self.now.duration H) now e) }
         ensures number { IfOk result (λ found. found.0 ≡ length self.now.made + 1) }
         ensures few { IfOk result (λ found. found.0 ≤ EVENT_LIMIT) }
+        ensures late { IfOk result (λ found. self.now.clock ≤ now) }
         ensures handle { IfOk result (λ found. handle_at self.now.made frame ≡ Some found.1) }
         ensures found { IfOk result (λ found. IsSome (entry_of self.now.frames.entries found.1)) }
     {

@@ -3,10 +3,12 @@ ghost use Rattle.std.specs.Prelude.{◌≡◌, refl};
 ghost use Rattle.pe_activation.specs.Stamps.{IsField};
 ghost use Rattle.pe_origin.specs.Origins.{is_same_origin};
 ghost use Rattle.pe_engine.specs.Origins.{same_as_itself};
-ghost use Rattle.pe_engine.specs.Rows.{no_kept_attributes};
+ghost use Rattle.pe_engine.specs.Rows.{no_kept_attributes, blocks};
 
 use pe_activation::Activatable;
 use pe_base::{Bytes, DocNo, Stamp};
+use pe_changes::Governed;
+use pe_features::Feature;
 use pe_frames::Numbered;
 use pe_origin::{Origin, Place, same_origin};
 use pe_policy::Policy;
@@ -75,6 +77,14 @@ impl Numbered for Row {
 
     fn number(&self) -> DocNo {
         self.doc
+    }
+}
+
+impl Governed for Row {
+    ghost blocks_feature = { blocks };
+
+    fn is_blocked(&self, feature: Feature) -> bool {
+        !self.secure || self.policy.why(feature).is_some()
     }
 }
 

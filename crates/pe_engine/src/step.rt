@@ -6,16 +6,16 @@ ghost use Rattle.pe_events.specs.declared.cause.Cause.TheVariants as cause;
 ghost use Rattle.pe_events.specs.declared.event.Event.TheVariants as event;
 ghost use Rattle.pe_events.specs.declared.reason.Reason.TheVariants as reason;
 ghost use Rattle.pe_engine.specs.Promises.{IsAllowedIn, IsDeniedIn};
-ghost use Rattle.pe_engine.specs.Replying.{timed, steps_of, IsAnswer};
+ghost use Rattle.pe_engine.specs.Replying.{timed, steps_of, is_plain, IsAnswer, IsReplied};
 ghost use Rattle.pe_engine.specs.Stepping.{is_answered, IsReply, IsSyntaxRefusal};
 ghost use Rattle.pe_engine.specs.declared.refusal.Refusal.TheVariants as refusal;
 
 use crate::engine::Engine;
+use crate::laws::engine_laws;
 use crate::refusal::Refusal;
 use crate::replies::Replies;
 use pe_base::{Millis, Steps};
 use pe_events::{Answer, Cause, Event, Stamped};
-use pe_laws::history_laws;
 use std::alloc::AllocError;
 use std::sync::ledger::Ledger;
 
@@ -23,14 +23,15 @@ impl Engine {
     ghost use Rattle.pe_rules.specs.History.{History};
     ghost use Rattle.pe_engine.specs.StandsFor.{StandsFor};
 
-    /// Answers an event of a verb that is built, or says why it is not accepted.
+    /// Answers an event of a plain verb, which brings no change by itself, or says why it is not
+    /// accepted.
     fn answer<L: Ledger>(
         &mut self,
         stamped: &Stamped<'_>,
         steps: &mut Steps<L>,
     ) -> Result<Answer, Refusal>
-        ensures built { (H : History) → StandsFor self.old H → is_answered stamped.now.event ≡ true → IsAnswer self.old self.new H (timed stamped.now.time stamped.now.event) result }
-        ensures other { is_answered stamped.now.event ≡ false → (result ≡ Err (refusal.For cause.Syntax)) × (self.new ≡ self.old) }
+        ensures plain { (H : History) → StandsFor self.old H → is_plain stamped.now.event ≡ true → IsAnswer self.old self.new H (timed stamped.now.time stamped.now.event) result }
+        ensures other { is_plain stamped.now.event ≡ false → (result ≡ Err (refusal.For cause.Syntax)) × (self.new ≡ self.old) }
     {
         let now = Millis::of(stamped.time);
         match &stamped.event {
@@ -56,11 +57,7 @@ impl Engine {
                 header,
                 steps,
             ),
-            Event::Navigate { frame, url, header } => {
-                self.navigate(now, *frame, url, header, steps)
-            }
             Event::Attr { frame, name, value } => self.attr(now, *frame, *name, value, steps),
-            Event::Close { frame } => self.close(now, *frame),
             Event::Input { frame, kind } => self.input(now, *frame, *kind, steps),
             Event::Ask { frame } => self.state(now, *frame, steps),
             Event::History { frame } => self.history(now, *frame, steps),
@@ -72,7 +69,9 @@ impl Engine {
             ),
             Event::Features { frame } => self.features(now, *frame, steps),
             Event::Tick => self.tick(now),
-            Event::UseCall { .. }
+            Event::Navigate { .. }
+            | Event::Close { .. }
+            | Event::UseCall { .. }
             | Event::Query { .. }
             | Event::DropStatus { .. }
             | Event::Request { .. }
@@ -83,15 +82,72 @@ impl Engine {
         }
     }
 
-    /// A reply without changes.
-    fn without_changes(&self, answer: Answer) -> Replies
-        ensures answer { result.answer ≡ answer }
+    /// Takes the event of a plain verb, and then lets its time pass for the store.
+    fn reply_after_time<L: Ledger>(
+        &mut self,
+        stamped: &Stamped<'_>,
+        steps: &mut Steps<L>,
+    ) -> Result<Replies, Refusal>
+        ensures plain { (H : History) → StandsFor self.old H → is_plain stamped.now.event ≡ true → IsReplied self.old self.new H (timed stamped.now.time stamped.now.event) result }
+        ensures other { is_plain stamped.now.event ≡ false → (result ≡ Err (refusal.For cause.Syntax)) × (self.new ≡ self.old) }
+    {
+        engine_laws();
+        let answer = match self.answer(stamped, steps) {
+            Ok(answer) => answer,
+            Err(refusal) => return Err(refusal),
+        };
+        let before = self.lapse(Millis::of(stamped.time), steps)?;
+        Ok(Replies {
+            before,
+            answer,
+            after: Vec::new(self.alloc),
+        })
+    }
+
+    /// Takes an event of a verb that is built, or says why it is not accepted.
+    fn accept<L: Ledger>(
+        &mut self,
+        stamped: &Stamped<'_>,
+        steps: &mut Steps<L>,
+    ) -> Result<Replies, Refusal>
+        ensures built { (H : History) → StandsFor self.old H → is_answered stamped.now.event ≡ true → IsReplied self.old self.new H (timed stamped.now.time stamped.now.event) result }
+        ensures other { is_answered stamped.now.event ≡ false → (result ≡ Err (refusal.For cause.Syntax)) × (self.new ≡ self.old) }
+    {
+        let now = Millis::of(stamped.time);
+        match &stamped.event {
+            Event::Navigate { frame, url, header } => {
+                self.navigate(now, *frame, url, header, steps)
+            }
+            Event::Close { frame } => self.close(now, *frame, steps),
+            Event::OpenPage { .. }
+            | Event::Embed { .. }
+            | Event::Attr { .. }
+            | Event::Input { .. }
+            | Event::Ask { .. }
+            | Event::History { .. }
+            | Event::PolicyOf { .. }
+            | Event::Features { .. }
+            | Event::UseCall { .. }
+            | Event::Query { .. }
+            | Event::DropStatus { .. }
+            | Event::Request { .. }
+            | Event::Answered { .. }
+            | Event::SetState { .. }
+            | Event::Post { .. }
+            | Event::Deliver { .. }
+            | Event::Tick => self.reply_after_time(stamped, steps),
+        }
+    }
+
+    /// The reply to an event that is refused.
+    fn refused(&self, cause: Cause) -> Replies
+        ensures answer { result.answer ≡ answer.Refused cause }
         ensures before { result.before.items ≡ [] }
         ensures after { result.after.items ≡ [] }
     {
         Replies {
             before: Vec::new(self.alloc),
-            answer,
+            answer: Answer::Refused { cause },
             after: Vec::new(self.alloc),
         }
     }
@@ -107,13 +163,12 @@ impl Engine {
         ensures once_failed { self.old.failed ≡ true → OnOk result ⊥ × (self.new ≡ self.old) }
         ensures fails { OnErr result (self.new.failed ≡ true) }
     {
-        history_laws();
         if self.failed {
             return Err(AllocError);
         }
-        match self.answer(stamped, steps) {
-            Ok(answer) => Ok(self.without_changes(answer)),
-            Err(Refusal::For(cause)) => Ok(self.without_changes(Answer::Refused { cause })),
+        match self.accept(stamped, steps) {
+            Ok(replies) => Ok(replies),
+            Err(Refusal::For(cause)) => Ok(self.refused(cause)),
             Err(Refusal::Memory) => {
                 self.failed = true;
                 Err(AllocError)
@@ -140,7 +195,7 @@ impl Engine {
         ensures denied { (H : History) (frame : ℕ) (name : List ℕ) (why : Denial) → StandsFor self.old H → stamped.now.event ≡ event.PolicyOf frame name
             → IfOk result (λ r. r.answer ≡ answer.Denied (reason.Policy why) → IsDeniedIn (steps_of self.old H) frame name why) }
     {
-        history_laws();
+        engine_laws();
         self.reply(stamped, steps)
     }
 }

@@ -9,13 +9,13 @@ ghost use Rattle.pe_engine.specs.StandsFor.{StandsFor};
 
 use crate::attribute::{Attribute, attribute_given};
 use crate::engine::{Engine, Made};
+use crate::laws::engine_laws;
 use crate::refusal::Refusal;
 use crate::row::Row;
 use pe_arena::Handle;
 use pe_base::{Millis, Steps};
 use pe_events::{Answer, AttrName};
 use pe_frames::Frames;
-use pe_laws::history_laws;
 use pe_lines::Text;
 use std::sync::ledger::Ledger;
 
@@ -41,7 +41,7 @@ impl Engine {
     ) -> Result<Answer, Refusal>
         ensures { (H : History) → StandsFor self.old H → IsAnswer self.old self.new H (timed now (event.Attr frame name value.now)) result }
     {
-        history_laws();
+        engine_laws();
         let (_, h) = self.next_in(now, frame)?;
         let attribute = match attribute_given(self.alloc, name, value) {
             Ok(attribute) => attribute,

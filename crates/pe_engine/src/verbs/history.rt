@@ -5,11 +5,11 @@ ghost use Rattle.pe_engine.specs.Replying.{timed, IsAnswer};
 ghost use Rattle.pe_engine.specs.StandsFor.{StandsFor};
 
 use crate::engine::{Engine, Made};
+use crate::laws::engine_laws;
 use crate::refusal::Refusal;
 use pe_activation::{Activatable, consume_history, history_active};
 use pe_base::{Millis, Steps};
 use pe_events::{Answer, Reason};
-use pe_laws::history_laws;
 use std::sync::ledger::Ledger;
 
 impl Engine {
@@ -23,7 +23,7 @@ impl Engine {
     ) -> Result<Answer, Refusal>
         ensures { (H : History) → StandsFor self.old H → IsAnswer self.old self.new H (timed now (event.History frame)) result }
     {
-        history_laws();
+        engine_laws();
         let (_, h) = self.next_in(now, frame)?;
         let row = self.row(h, steps);
         if !history_active(row.stamp(), row.second()) {

@@ -5,11 +5,11 @@ ghost use Rattle.pe_engine.specs.Replying.{timed, IsAnswer};
 ghost use Rattle.pe_engine.specs.StandsFor.{StandsFor};
 
 use crate::engine::{Engine, Made};
+use crate::laws::engine_laws;
 use crate::refusal::Refusal;
 use pe_activation::{notify, triggers};
 use pe_base::{InputKind, Millis, Steps};
 use pe_events::Answer;
-use pe_laws::history_laws;
 use std::sync::ledger::Ledger;
 
 impl Engine {
@@ -25,7 +25,7 @@ impl Engine {
     ) -> Result<Answer, Refusal>
         ensures { (H : History) → StandsFor self.old H → IsAnswer self.old self.new H (timed now (event.Input frame kind)) result }
     {
-        history_laws();
+        engine_laws();
         let (_, h) = self.next_in(now, frame)?;
         if !triggers(kind) {
             self.note(now, Made::Nothing)?;

@@ -9,21 +9,22 @@ ghost use Rattle.pe_rules.specs.History.{History, StepAnswer};
 ghost use Rattle.pe_rules.specs.Replies.{replied};
 ghost use Rattle.pe_engine.specs.Making.{IsNew};
 ghost use Rattle.pe_engine.specs.Objects.{handle_at};
-ghost use Rattle.pe_engine.specs.Replying.{timed, IsAnswer};
+ghost use Rattle.pe_engine.specs.Replying.{timed, IsReplied};
 ghost use Rattle.pe_engine.specs.Rows.{no_kept_attributes, IsSettled, IsEmbedder};
 ghost use Rattle.pe_engine.specs.StandsFor.{StandsFor};
 
 use crate::attribute::place_named;
 use crate::engine::{Engine, Made};
+use crate::laws::engine_laws;
 use crate::making::{child_row, top_row};
 use crate::refusal::Refusal;
+use crate::replies::Replies;
 use crate::row::{Attributes, Row};
 use crate::verbs::open::bytes_of;
 use pe_arena::Handle;
 use pe_base::{DocNo, Millis, Steps};
 use pe_events::Answer;
 use pe_frames::Frames;
-use pe_laws::history_laws;
 use pe_lines::Text;
 use pe_origin::Place;
 use std::alloc::AllocError;
@@ -52,7 +53,7 @@ impl Engine {
         ensures { (H : History) (f : ℕ) → StandsFor self.now H → handle_at self.now.made f ≡ Some h → IsSome (entry_of self.now.frames.entries h)
             → IsEmbedder (replied self.now.duration H) f (option_copied result) }
     {
-        history_laws();
+        engine_laws();
         let Some(parent) = self.frames.parent(h) else {
             return None;
         };
@@ -79,7 +80,7 @@ impl Engine {
             → place_at url ≡ Some place → number ≡ length self.now.made + 1
             → IfOk result (IsSettled (record { time = now; event = event.Navigate f url (option_copied header.entry); item = item } ∷ replied self.now.duration H)) }
     {
-        history_laws();
+        engine_laws();
         match self.embedder(h, steps) {
             Some(embedder) => {
                 let attributes = &self.row(h, steps).attributes;
@@ -100,10 +101,10 @@ impl Engine {
         url: &Text<'_>,
         header: &Option<Text<'_>>,
         steps: &mut Steps<L>,
-    ) -> Result<Answer, Refusal>
-        ensures { (H : History) → StandsFor self.old H → IsAnswer self.old self.new H (timed now (event.Navigate frame url.now header.now)) result }
+    ) -> Result<Replies, Refusal>
+        ensures { (H : History) → StandsFor self.old H → IsReplied self.old self.new H (timed now (event.Navigate frame url.now header.now)) result }
     {
-        history_laws();
+        engine_laws();
         let (number, h) = self.next_in(now, frame)?;
         let place = match place_named(self.alloc, url.as_slice()) {
             Ok(place) => place,
@@ -111,14 +112,22 @@ impl Engine {
         };
         let mut row = self.next_row(number, h, place, bytes_of(header), steps)?;
         let origin = row.origin.copy()?;
+        let first = self.row(h, steps).doc;
+        let before = self.pass(now, steps)?;
         row.attributes = take_attributes(&mut self.frames, h, steps);
-        let Ok(_) = self.frames.navigate(h, row) else {
+        self.frames.is_counted_in_tree_order();
+        let Ok(gone) = self.frames.navigate(h, row) else {
             return Err(Refusal::Memory);
         };
+        let after = self.leave(first, &gone, now, steps)?;
         self.note(now, Made::Doc)?;
-        Ok(Answer::DocMade {
-            doc: DocNo::of(number),
-            origin,
+        Ok(Replies {
+            before,
+            answer: Answer::DocMade {
+                doc: DocNo::of(number),
+                origin,
+            },
+            after,
         })
     }
 }

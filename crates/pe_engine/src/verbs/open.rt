@@ -17,13 +17,13 @@ ghost use Rattle.pe_engine.specs.StandsFor.{StandsFor};
 
 use crate::attribute::{place_given, place_named, value_given};
 use crate::engine::{Engine, Made};
+use crate::laws::engine_laws;
 use crate::making::{child_row, top_row};
 use crate::refusal::Refusal;
 use crate::row::{Attributes, Row};
 use pe_arena::Handle;
 use pe_base::{DEPTH_LIMIT, DocNo, FRAME_LIMIT, FrameNo, Millis, PAGE_LIMIT, Steps};
 use pe_events::{Answer, Cause};
-use pe_laws::history_laws;
 use pe_lines::Text;
 use pe_origin::{Origin, Place, PlaceKind};
 use std::alloc::AllocError;
@@ -106,7 +106,7 @@ impl Engine {
     ) -> Result<Answer, Refusal>
         ensures { (H : History) → StandsFor self.old H → IsAnswer self.old self.new H (timed now (event.OpenPage url.now header.now)) result }
     {
-        history_laws();
+        engine_laws();
         let number = self.next(now)?;
         let place = match place_named(self.alloc, url.as_slice()) {
             Ok(place) => place,
@@ -186,7 +186,7 @@ impl Engine {
         ensures cause { (H : History) (allow sandbox header : Option (List ℕ)) (fullscreen srcdoc : Bool) → StandsFor self.now H
             → IsChecked self.now H (timed now (event.Embed parent src.now place.now allow sandbox fullscreen srcdoc header)) result }
     {
-        history_laws();
+        engine_laws();
         let (number, at) = self.next_in(now, parent)?;
         let src = match place_given(self.alloc, src) {
             Ok(src) => src,
@@ -227,7 +227,7 @@ impl Engine {
         ensures { (H : History) → StandsFor self.old H
             → IsAnswer self.old self.new H (timed now (event.Embed parent src.now place.now allow.now sandbox.now fullscreen srcdoc header.now)) result }
     {
-        history_laws();
+        engine_laws();
         let found = match self.embedding(now, parent, src, place, steps) {
             Ok(found) => found,
             Err(refusal) => return Err(refusal),

@@ -13,11 +13,11 @@ ghost use Rattle.pe_engine.specs.Rows.{HasPolicy};
 ghost use Rattle.pe_engine.specs.StandsFor.{StandsFor};
 
 use crate::engine::{Engine, Made};
+use crate::laws::engine_laws;
 use crate::refusal::Refusal;
 use pe_base::{Denial, Millis, Steps};
 use pe_events::{Answer, Cause, Reason};
 use pe_features::Feature;
-use pe_laws::history_laws;
 use pe_policy::Policy;
 use std::sync::ledger::Ledger;
 
@@ -97,7 +97,7 @@ impl Engine {
     ) -> Result<Answer, Refusal>
         ensures { (H : History) → StandsFor self.old H → IsAnswer self.old self.new H (timed now (event.PolicyOf frame name.now)) result }
     {
-        history_laws();
+        engine_laws();
         let (_, h) = self.next_in(now, frame)?;
         let Some(feature) = controlled(name) else {
             return Err(Refusal::For(Cause::Feature));
@@ -117,7 +117,7 @@ impl Engine {
     ) -> Result<Answer, Refusal>
         ensures { (H : History) → StandsFor self.old H → IsAnswer self.old self.new H (timed now (event.Features frame)) result }
     {
-        history_laws();
+        engine_laws();
         let (_, h) = self.next_in(now, frame)?;
         let allowed = allowed(&self.row(h, steps).policy);
         self.note(now, Made::Nothing)?;

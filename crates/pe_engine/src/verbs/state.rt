@@ -8,12 +8,12 @@ ghost use Rattle.pe_engine.specs.Replying.{timed, IsAnswer};
 ghost use Rattle.pe_engine.specs.StandsFor.{StandsFor};
 
 use crate::engine::{Engine, Made};
+use crate::laws::engine_laws;
 use crate::refusal::Refusal;
 use crate::row::Row;
 use pe_activation::{Activatable, sticky, transient};
 use pe_base::{Millis, Steps};
 use pe_events::Answer;
-use pe_laws::history_laws;
 use std::sync::ledger::Ledger;
 
 /// The user activation that a row tells at this time, where transient activation lasts for so many
@@ -38,7 +38,7 @@ impl Engine {
     ) -> Result<Answer, Refusal>
         ensures { (H : History) → StandsFor self.old H → IsAnswer self.old self.new H (timed now (event.Ask frame)) result }
     {
-        history_laws();
+        engine_laws();
         let (_, h) = self.next_in(now, frame)?;
         let answer = activity(self.row(h, steps), now, self.duration);
         self.note(now, Made::Nothing)?;
@@ -49,7 +49,7 @@ impl Engine {
     pub(crate) fn tick(&mut self, now: Millis) -> Result<Answer, Refusal>
         ensures { (H : History) → StandsFor self.old H → IsAnswer self.old self.new H (timed now event.Tick) result }
     {
-        history_laws();
+        engine_laws();
         self.next(now)?;
         self.note(now, Made::Nothing)?;
         Ok(Answer::Done)

@@ -10,6 +10,7 @@ use Rattle.pe_engine.specs.Changing.{with_attribute}
 use Rattle.pe_engine.specs.Giving.{attribute_given}
 use Rattle.pe_engine.specs.StandsFor.{EngineValue}
 use Rattle.pe_engine.specs.Replying.{timed}
+use Rattle.pe_engine.specs.declared.engine.Made.TheVariants as made
 use Rattle.pe_engine.proofs.Accepted.{noted, accept}
 use Rattle.pe_engine.proofs.CommonCauses.{some-of}
 use Rattle.pe_engine.proofs.InPlace.{kept-attr}
@@ -34,8 +35,8 @@ returns g c = λ H s.
     let clause = subst (λ (v : Forest Row). IfSome (entry_of v.entries h) (λ z. N ≡ with_doc v h (record z.doc { attributes = with_attribute c.in-Ok.attribute z.doc.attributes }))) (ap (λ (v : EngineValue). v.frames) c.self.view_is) c.give.ensures in
     let written : N ≡ with_doc e.frames h (record y.doc { attributes = with_attribute c.in-Ok.attribute y.doc.attributes }) = subst (λ o. IfSome o (λ z. N ≡ with_doc e.frames h (record z.doc { attributes = with_attribute c.in-Ok.attribute z.doc.attributes }))) found clause in
     let given : N ≡ with_doc e.frames h (record y.doc { attributes = with_attribute (attribute_given c.args.name c.args.value.now) y.doc.attributes }) = written ∙ ap (λ (a : Attribute). with_doc e.frames h (record y.doc { attributes = with_attribute a y.doc.attributes })) c.in-Ok.ensures.1 in
-    accept c.history_laws.ensures e c.note.new.self H (timed c.args.now (event.Attr c.args.frame c.args.name c.args.value.now)) answer.Done (record { makes = λ i. refl; drops = λ i. refl; sets = λ i. refl; dismisses = λ i. refl }) s
-    n.duration n.failed n.clock (c.in_ok-h.ensures.rest H _ s refl ∙ other-attr T c.args.now c.args.frame c.args.name c.args.value.now (sym (bad-value c.args.frame c.args.name c.args.value.now) ∙ c.in-Ok.ensures.0))
+    accept c.engine_laws.ensures e c.note.new.self H (timed c.args.now (event.Attr c.args.frame c.args.name c.args.value.now)) answer.Done made.Nothing refl s
+    n.rest (c.in_ok-h.ensures.rest H _ s refl ∙ other-attr T c.args.now c.args.frame c.args.name c.args.value.now (sym (bad-value c.args.frame c.args.name c.args.value.now) ∙ c.in-Ok.ensures.0))
     (sym (done-attr e.duration T c.args.now c.args.frame c.args.name c.args.value.now))
-    (λ item is. rw (n.made, n.frames_are) (kept-attr c.history_laws.ensures c.args.now c.args.frame c.args.name c.args.value.now item T e.made e.frames N h y c.in_ok-h.ensures.handle found
+    (λ item is. rw (n.rest.noted.made, n.frames_are) (kept-attr c.engine_laws.ensures.history c.args.now c.args.frame c.args.name c.args.value.now item T e.made e.frames N h y c.in_ok-h.ensures.handle found
     (ap (λ (f : Forest Row). f.entries) given) (ap (λ (f : Forest Row). f.marks) given) s.steps.tree))

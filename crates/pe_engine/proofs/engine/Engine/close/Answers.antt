@@ -22,7 +22,7 @@ returns c = λ H s.
     let e = c.args.self.now in
     let T = replied e.duration H in
     let n = noted e c.note.new.self _ _ _ c.close.new.self c.self.view_is c.in_ok-note.ensures.ok in
-    accept c.history_laws.ensures e c.note.new.self H (timed c.args.now (event.Close c.args.frame)) answer.Done (record { makes = λ i. refl; drops = λ i. refl; sets = λ i. refl; dismisses = λ i. refl }) s
-    n.duration n.failed n.clock (c.in_ok-h.ensures.rest H _ s refl ∙ other-close T c.args.now c.args.frame) (sym (done-close e.duration T c.args.now c.args.frame))
-    (λ item is. rw (n.made, n.frames_are) (kept-close c.history_laws.ensures (step_of (timed c.args.now (event.Close c.args.frame)) item) T e.made e.frames c.close.new.self c.args.frame c.in_ok-h.h refl c.in_ok-h.ensures.handle
+    accept c.engine_laws.ensures e c.note.new.self H (timed c.args.now (event.Close c.args.frame)) answer.Done refl s
+    n.rest (c.in_ok-h.ensures.rest H _ s refl ∙ other-close T c.args.now c.args.frame) (sym (done-close e.duration T c.args.now c.args.frame))
+    (λ item is. rw (n.rest.noted.made, n.frames_are) (kept-close c.engine_laws.ensures.history (step_of (timed c.args.now (event.Close c.args.frame)) item) T e.made e.frames c.close.new.self c.args.frame c.in_ok-h.h refl c.in_ok-h.ensures.handle
     (c.in-Ok.ensures.entries ∙ ap (λ (v : EngineValue). closed c.in_ok-h.h v.frames.entries) c.self.view_is) (c.close.ensures.marks ∙ ap (λ (v : EngineValue). v.frames.marks) c.self.view_is) s.steps.tree))

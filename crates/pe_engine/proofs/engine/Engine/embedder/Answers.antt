@@ -10,14 +10,14 @@ pub returns-in_default : goal.returns-in_default
 returns-in_default g c = λ H f s at live.
     let e = c.args.self.now in
     let (y, found) = some-of (entry_of e.frames.entries c.args.h) live in
-    no-embedder c.history_laws.ensures e H f c.args.h y s at found
+    no-embedder c.engine_laws.ensures.history e H f c.args.h y s at found
     (parent-is (entry_of e.frames.entries c.args.h) y None (ap (λ (v : EngineValue). option_and_then parent_of (entry_of v.frames.entries c.args.h)) (sym c.self.view_is) ∙ sym c.parent.ensures ∙ c.in_default.is) found)
 
 pub returns-in_default-node : goal.returns-in_default-node
 returns-in_default-node g c = λ H f s at live.
     let e = c.args.self.now in
     let (y, found) = some-of (entry_of e.frames.entries c.args.h) live in
-    no-node c.history_laws.ensures e H f c.args.h c.in-Some.parent y s at found
+    no-node c.engine_laws.ensures.history e H f c.args.h c.in-Some.parent y s at found
     (parent-is (entry_of e.frames.entries c.args.h) y (Some c.in-Some.parent) (ap (λ (v : EngineValue). option_and_then parent_of (entry_of v.frames.entries c.args.h)) (sym c.self.view_is) ∙ sym c.parent.ensures ∙ c.in-Some.is) found)
     (ap (λ (v : EngineValue). node_of v.frames.entries c.in-Some.parent) (sym c.self.view_is) ∙ sym c.node.ensures.value ∙ ap option_copied c.in_default-node.is)
 
@@ -25,6 +25,6 @@ pub returns : goal.returns
 returns g c = λ H f s at live.
     let e = c.args.self.now in
     let (y, found) = some-of (entry_of e.frames.entries c.args.h) live in
-    some-embedder c.history_laws.ensures e H f c.args.h c.in-Some.parent y c.in-Some-node.node.now s at found
+    some-embedder c.engine_laws.ensures.history e H f c.args.h c.in-Some.parent y c.in-Some-node.node.now s at found
     (parent-is (entry_of e.frames.entries c.args.h) y (Some c.in-Some.parent) (ap (λ (v : EngineValue). option_and_then parent_of (entry_of v.frames.entries c.args.h)) (sym c.self.view_is) ∙ sym c.parent.ensures ∙ c.in-Some.is) found)
     (ap (λ (v : EngineValue). node_of v.frames.entries c.in-Some.parent) (sym c.self.view_is) ∙ sym c.node.ensures.value ∙ ap option_copied c.in-Some-node.is)

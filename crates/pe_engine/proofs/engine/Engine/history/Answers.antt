@@ -27,8 +27,8 @@ returns-then-not-history_active g c = λ H s.
     let x = c.row-row.result.now in
     let shown = c.row-row.ensures.shown H c.args.frame s c.in_ok-h.ensures.handle in
     let active : is_history_active x.stamp x.second ≡ false = sym (c.history_active.ensures ∙ ap (λ t. is_history_active t c.second.result) c.stamp.ensures ∙ ap (is_history_active x.stamp) c.second.ensures) ∙ c.if-not-history_active.true in
-    let says : answer_of e.duration T c.args.now (event.History c.args.frame) ≡ answer.Denied reason.NoHistory = history-answer c.history_laws.ensures e.duration T c.args.now c.args.frame x shown ∙ ap answer_of_history_action active in
-    accept-silent c.history_laws.ensures e c.note.new.self H (timed c.args.now (event.History c.args.frame)) (answer.Denied reason.NoHistory) (record { makes = λ i. refl; drops = λ i. refl; sets = λ i. refl; dismisses = λ i. refl })
+    let says : answer_of e.duration T c.args.now (event.History c.args.frame) ≡ answer.Denied reason.NoHistory = history-answer c.engine_laws.ensures.history e.duration T c.args.now c.args.frame x shown ∙ ap answer_of_history_action active in
+    accept-silent c.engine_laws.ensures e c.note.new.self H (timed c.args.now (event.History c.args.frame)) (answer.Denied reason.NoHistory) refl
     (silent-history e.duration T c.args.now c.args.frame says) s (noted-silent e c.note.new.self e _ _ refl c.in_ok-note.ensures.ok)
     (c.in_ok-h.ensures.rest H _ s refl ∙ other-history T c.args.now c.args.frame) (sym says)
 
@@ -41,12 +41,12 @@ returns g c = λ H s.
     let N = c.consume_history.new.frames in
     let shown = c.row-row.ensures.shown H c.args.frame s c.in_ok-h.ensures.handle in
     let active : is_history_active x.stamp x.second ≡ true = sym (c.history_active.ensures ∙ ap (λ t. is_history_active t c.second.result) c.stamp.ensures ∙ ap (is_history_active x.stamp) c.second.ensures) ∙ c.if-not-history_active.false in
-    let says : answer_of e.duration T c.args.now (event.History c.args.frame) ≡ answer.Allowed = history-answer c.history_laws.ensures e.duration T c.args.now c.args.frame x shown ∙ ap answer_of_history_action active in
+    let says : answer_of e.duration T c.args.now (event.History c.args.frame) ≡ answer.Allowed = history-answer c.engine_laws.ensures.history e.duration T c.args.now c.args.frame x shown ∙ ap answer_of_history_action active in
     let n = noted e c.note-2.new.self _ _ _ N c.self.view_is c.in_ok-note-2.ensures.ok in
     let (y, found) = some-of (entry_of e.frames.entries h) c.in_ok-h.ensures.found in
     let clause = subst (λ (v : Forest Row). IfSome (entry_of v.entries h) (λ z. N.entries ≡ changed_page (history_consumed (λ (r : Row). r.stamp) (λ t (r : Row). record r { second = t })) v.entries (top_of z))) (ap (λ (v : EngineValue). v.frames) c.self.view_is) c.consume_history.ensures.entries in
     let entries = subst (λ o. IfSome o (λ z. N.entries ≡ changed_page (history_consumed (λ (r : Row). r.stamp) (λ t (r : Row). record r { second = t })) e.frames.entries (top_of z))) found clause in
-    accept c.history_laws.ensures e c.note-2.new.self H (timed c.args.now (event.History c.args.frame)) answer.Allowed (record { makes = λ i. refl; drops = λ i. refl; sets = λ i. refl; dismisses = λ i. refl }) s
-    n.duration n.failed n.clock (c.in_ok-h.ensures.rest H _ s refl ∙ other-history T c.args.now c.args.frame) (sym says)
-    (λ item is. rw (n.made, n.frames_are) (subst (λ i. IsTree (step_of (timed c.args.now (event.History c.args.frame)) i ∷ T) (e.made ++ made.Nothing ∷ []) N) (sym (is ∙ ap Replied says))
-    (kept-history c.history_laws.ensures c.args.now c.args.frame T e.made e.frames N h y c.in_ok-h.ensures.handle found entries (c.consume_history.ensures.marks ∙ ap (λ (v : EngineValue). v.frames.marks) c.self.view_is) s.steps.tree)))
+    accept c.engine_laws.ensures e c.note-2.new.self H (timed c.args.now (event.History c.args.frame)) answer.Allowed made.Nothing refl s
+    n.rest (c.in_ok-h.ensures.rest H _ s refl ∙ other-history T c.args.now c.args.frame) (sym says)
+    (λ item is. rw (n.rest.noted.made, n.frames_are) (subst (λ i. IsTree (step_of (timed c.args.now (event.History c.args.frame)) i ∷ T) (e.made ++ made.Nothing ∷ []) N) (sym (is ∙ ap Replied says))
+    (kept-history c.engine_laws.ensures.history c.args.now c.args.frame T e.made e.frames N h y c.in_ok-h.ensures.handle found entries (c.consume_history.ensures.marks ∙ ap (λ (v : EngineValue). v.frames.marks) c.self.view_is) s.steps.tree)))

@@ -40,7 +40,7 @@ returns g c = λ H s.
     ∙ ap (λ (v : Forest Row). navigated h (record x { attributes = c.take_attributes.result }) v.entries) taken.1
     ∙ navigated-anyway h (record x { attributes = c.take_attributes.result }) (record y.doc { attributes = no_kept_attributes }) e.frames.entries
     ∙ ap (λ (a : Attributes). navigated h (record x { attributes = a }) e.frames.entries) taken.0 in
-    rw (c.of.ensures, c.in_ok-origin.ensures) (accept-nav c.history_laws.ensures e c.note.new.self H c.args.now c.in_ok-number.number c.args.frame c.args.url.now c.args.header.now h y x N s c.in_ok-number.ensures.number c.in_ok-number.ensures.handle found
+    rw (c.of.ensures, c.in_ok-origin.ensures) (accept-nav c.engine_laws.ensures.history e c.note.new.self H c.args.now c.in_ok-number.number c.args.frame c.args.url.now c.args.header.now h y x N s c.in_ok-number.ensures.number c.in_ok-number.ensures.handle found
     (c.in_ok-number.ensures.rest H _ s refl ∙ other-nav T c.args.now c.args.frame c.args.url.now c.args.header.now c.in-Ok.place named)
     c.in_ok-row.ensures.new
     (λ item. subst (λ o. IsSettled (record { time = c.args.now; event = event.Navigate c.args.frame c.args.url.now o; item = item } ∷ T) x) c.bytes_of.ensures (c.in_ok-row.ensures.settled H c.args.now c.args.frame c.args.url.now item s c.in_ok-number.ensures.handle named c.in_ok-number.ensures.number))

@@ -14,7 +14,7 @@ returns g c = λ H s.
     let e = c.args.self.now in
     let T = replied e.duration H in
     let shown = c.row.ensures.shown H c.args.frame s c.in_ok-h.ensures.handle in
-    accept-silent c.history_laws.ensures e c.note.new.self H (timed c.args.now (event.PolicyOf c.args.frame c.args.name.now)) c.answer_of_denial-answer.result (record { makes = λ i. refl; drops = λ i. refl; sets = λ i. refl; dismisses = λ i. refl })
+    accept-silent c.engine_laws.ensures e c.note.new.self H (timed c.args.now (event.PolicyOf c.args.frame c.args.name.now)) c.answer_of_denial-answer.result refl
     (record { frames = refl; documents = refl; ends = refl; activates = refl; consumes = refl; acts = refl; gives = refl }) s
     (noted-silent e c.note.new.self e _ _ refl c.in_ok-note.ensures.ok)
     (c.in_ok-h.ensures.rest H _ s refl ∙ other-policy T c.args.now c.args.frame c.args.name.now c.in-Some.ensures.some)

@@ -1,0 +1,147 @@
+-- An event that ends documents.
+use Rattle.std.proofs.Common.{◌≡◌, ℕ, Bool, false, not, ◌==◌, List, [], ◌∷◌, ◌++◌, length, Some, None, Ok, IsTrue, refl, sym, ◌∙◌, ap, subst}
+use Rattle.std.specs.Prelude.{filter}
+use Rattle.std.specs.Global.{Vec}
+use Rattle.std.specs.List.{list_any}
+use Rattle.std.proofs.lemmas.Bool.Decides.{Decides-eqb}
+use Rattle.pe_frames.specs.Forest.{Forest}
+use Rattle.pe_status.specs.declared.registered.Registered.{Registered}
+use Rattle.pe_status.specs.Registry.{Registry}
+use Rattle.pe_events.specs.declared.answer.Answer.{Answer}
+use Rattle.pe_events.specs.declared.answer.Change.{Change}
+use Rattle.pe_events.specs.declared.event.Event.{Event}
+use Rattle.pe_events.specs.Timed.{Timed}
+use Rattle.pe_rules.specs.History.{StepAnswer, Step, RepliedHistory, History}
+use Rattle.pe_rules.specs.Current.{ends, is_current, document_in}
+use Rattle.pe_rules.specs.Causes.{cause_of}
+use Rattle.pe_rules.specs.Changes.{changes_after}
+use Rattle.pe_rules.specs.Replies.{answer_of, replied, step_answer, is_regular}
+use Rattle.pe_laws.specs.Effects.{effects}
+use Rattle.pe_laws.specs.StatusesLaws.{Each}
+use Rattle.pe_changes.specs.Parts.{IsStore, IsStatuses, AreGoverned}
+use Rattle.pe_changes.specs.StoreSteps.{IsEnded}
+use Rattle.pe_engine.specs.declared.row.Row.{Row}
+use Rattle.pe_engine.specs.declared.engine.Made.{Made}
+use Rattle.pe_engine.specs.Changing.{HasNoted}
+use Rattle.pe_engine.specs.Laws.{EngineLaws}
+use Rattle.pe_engine.specs.Leaving.{numbers_of, without_documents}
+use Rattle.pe_engine.specs.Replying.{steps_of, HasPassed, IsReplied}
+use Rattle.pe_engine.specs.Rows.{blocks}
+use Rattle.pe_engine.specs.StandsFor.{EngineValue, IsNamed, StandsForAt, StandsFor}
+use Rattle.pe_engine.specs.Tree.{IsTree}
+use Rattle.pe_engine.proofs.Accepted.{step_of, regular-on, documents-within, named-stays, stands-by-parts}
+use Rattle.pe_engine.proofs.Governing.{all-governed}
+use Rattle.pe_engine.proofs.Gone.{is_gone, without-is}
+use Rattle.pe_engine.proofs.Lists.{each-kept}
+
+-- the event ends the document of this frame and those below it, and does no more
+pub record IsEndOf (e : Event) (f : ℕ) : Type 0 where
+  pub ended : (fs : List ℕ) → ends fs e ≡ list_any (λ g. g == f) fs
+  pub makes : (item : StepAnswer) → (effects e item).makes_status ≡ false
+  pub drops : (item : StepAnswer) → (effects e item).drops_status ≡ false
+
+-- the engine before, once the time has passed, once its frames are these, once what the documents had is gone, and once the event is noted
+pub record HasEnded (e p v w u : EngineValue) (now : ℕ) (m : Made) (frames : Forest Row) : Type 0 where
+  pub noted : HasNoted e u now m
+  pub frames_are : u.frames ≡ frames
+  pub passed_duration : p.duration ≡ e.duration
+  pub passed : p.statuses ≡ e.statuses
+  pub store_before : v.store ≡ p.store
+  pub statuses_before : v.statuses ≡ p.statuses
+  pub store_after : u.store ≡ w.store
+  pub statuses_after : u.statuses ≡ w.statuses
+
+pub has-ended : (e p v w u : EngineValue) (now : ℕ) (m : Made) (frames : Forest Row) → p ≡ record e { store = p.store } → v ≡ record p { frames = frames } → w ≡ record v { store = w.store; statuses = w.statuses }
+    → u ≡ record w { clock = now; made = w.made ++ m ∷ [] } → HasEnded e p v w u now m frames
+has-ended e p v w u now m frames p_is v_is w_is u_is = record {
+  noted = record {
+    duration = ap (λ (x : EngineValue). x.duration) u_is ∙ ap (λ (x : EngineValue). x.duration) w_is ∙ ap (λ (x : EngineValue). x.duration) v_is ∙ ap (λ (x : EngineValue). x.duration) p_is;
+    failed = ap (λ (x : EngineValue). x.failed) u_is ∙ ap (λ (x : EngineValue). x.failed) w_is ∙ ap (λ (x : EngineValue). x.failed) v_is ∙ ap (λ (x : EngineValue). x.failed) p_is;
+    clock = ap (λ (x : EngineValue). x.clock) u_is;
+    made = ap (λ (x : EngineValue). x.made) u_is ∙ ap (λ (x : EngineValue). x.made ++ m ∷ []) w_is ∙ ap (λ (x : EngineValue). x.made ++ m ∷ []) v_is ∙ ap (λ (x : EngineValue). x.made ++ m ∷ []) p_is;
+  };
+  frames_are = ap (λ (x : EngineValue). x.frames) u_is ∙ ap (λ (x : EngineValue). x.frames) w_is ∙ ap (λ (x : EngineValue). x.frames) v_is;
+  passed_duration = ap (λ (x : EngineValue). x.duration) p_is;
+  passed = ap (λ (x : EngineValue). x.statuses) p_is;
+  store_before = ap (λ (x : EngineValue). x.store) v_is;
+  statuses_before = ap (λ (x : EngineValue). x.statuses) v_is;
+  store_after = ap (λ (x : EngineValue). x.store) u_is;
+  statuses_after = ap (λ (x : EngineValue). x.statuses) u_is;
+}
+
+module _ (laws : EngineLaws) where
+  pub ended-reply : (e p v w u : EngineValue) (H : History) (x : Timed) (f first : ℕ) (m : Made) (frames : Forest Row) (gone : List Row) (said : Answer) (before after : Vec Change)
+      → StandsFor e H → HasPassed e p H x.time before → HasEnded e p v w u x.time m frames → IsEndOf x.event f
+      → cause_of (replied e.duration H) x.time x.event ≡ None → said ≡ answer_of e.duration (replied e.duration H) x.time x.event → document_in (replied e.duration H) f ≡ Some first
+      → ((item : StepAnswer) → item ≡ step_answer e.duration (replied e.duration H) x.time x.event → IsTree (step_of x item ∷ replied e.duration H) u.made u.frames)
+      → ((item : StepAnswer) → Each (λ r. not (is_gone (numbers_of gone) r.doc.doc) ≡ is_current (step_of x item ∷ replied e.duration H) r.doc.doc) e.statuses.live)
+      → w.statuses.live ≡ without_documents (numbers_of gone) v.statuses.live → w.statuses.given ≡ v.statuses.given → IsEnded first v.store w.store
+      → ((s : Step) → IsTrue (ends (f ∷ []) s.event) → IsStore (replied e.duration H) x.time v.store → IsStatuses (s ∷ replied e.duration H) w.statuses
+        → AreGoverned (s ∷ replied e.duration H) (λ (y : Row). y.doc) blocks w.frames.entries w.statuses.live → after.items ≡ changes_after (replied e.duration H) (s ∷ replied e.duration H) x.time)
+      → w.frames ≡ u.frames
+      → IsReplied e u H x (Ok (record { before = before; answer = said; after = after }))
+  ended-reply e p v w u H x f first m frames gone said before after stands passed has end none says shown tree are live given ended changes same = (none, record {
+    says = says;
+    before = passed.changes_are;
+    after = changes s ends-it store-before statuses-after governed ∙ ap (λ U. changes_after T U x.time) (sym (laws.history.steps.told_step e.duration x H));
+    duration = has.noted.duration;
+    stands = subst (λ t. StandsForAt u (x ∷ H) t) (sym has.noted.clock) (stands-by-parts laws e u H x x.time stands.regular stands.steps.working none m has.noted (record {
+      tree = tree item refl;
+      store = store-after;
+      statuses = statuses-now;
+      named = named-now;
+    }));
+  })
+    where
+      T : RepliedHistory
+      T = replied e.duration H
+
+      item : StepAnswer
+      item = step_answer e.duration T x.time x.event
+
+      s : Step
+      s = step_of x item
+
+      left : Registered → Bool
+      left r = not (is_gone (numbers_of gone) r.doc.doc)
+
+      lasts : p.duration ≡ e.duration
+      lasts = has.passed_duration
+
+      ends-it : IsTrue (ends (f ∷ []) x.event)
+      ends-it = end.ended (f ∷ []) ∙ rw ((Decides-eqb f f).1 refl) refl
+
+      store-before : IsStore T x.time v.store
+      store-before = subst (IsStore T x.time) (sym has.store_before) (subst (λ d. IsStore (replied d H) x.time p.store) lasts passed.stands.steps.store)
+
+      store-after : IsStore (s ∷ T) x.time u.store
+      store-after = subst (IsStore (s ∷ T) x.time) (sym has.store_after) (laws.stores.ended e.duration H s x.time f first v.store w.store stands.regular ends-it shown store-before ended)
+
+      before-is : v.statuses ≡ e.statuses
+      before-is = has.statuses_before ∙ has.passed
+
+      live-is : w.statuses.live ≡ filter left e.statuses.live
+      live-is = live ∙ without-is (numbers_of gone) v.statuses.live ∙ ap (λ (q : Registry). filter left q.live) before-is
+
+      statuses-after : IsStatuses (s ∷ T) w.statuses
+      statuses-after = laws.statuses.ended s T left e.statuses w.statuses (end.makes item) (end.drops item) stands.steps.statuses (are item) live-is (given ∙ ap (λ (q : Registry). q.given) before-is)
+
+      statuses-now : IsStatuses (s ∷ T) u.statuses
+      statuses-now = subst (IsStatuses (s ∷ T)) (sym has.statuses_after) statuses-after
+
+      named-after : Each (IsNamed (s ∷ T) u.made) w.statuses.live
+      named-after = subst (Each (IsNamed (s ∷ T) u.made)) (sym live-is) (each-kept (IsNamed (s ∷ T) u.made) (IsNamed (s ∷ T) u.made) left e.statuses.live (λ r n z. n)
+          (rw has.noted.made (named-stays laws s T e.made m e.statuses.live (documents-within laws T e.statuses stands.steps.statuses) stands.steps.named)))
+
+      named-now : Each (IsNamed (s ∷ T) u.made) u.statuses.live
+      named-now = subst (λ (q : Registry). Each (IsNamed (s ∷ T) u.made) q.live) (sym has.statuses_after) named-after
+
+      told : replied e.duration (x ∷ H) ≡ s ∷ T
+      told = laws.history.steps.told_step e.duration x H
+
+      governed : AreGoverned (s ∷ T) (λ (y : Row). y.doc) blocks w.frames.entries w.statuses.live
+      governed =
+          subst (λ (q : Forest Row). AreGoverned (s ∷ T) (λ (y : Row). y.doc) blocks q.entries w.statuses.live) (sym same)
+          (subst (λ U. AreGoverned U (λ (y : Row). y.doc) blocks u.frames.entries w.statuses.live) told
+          (all-governed laws.history e.duration (x ∷ H) u.made u.frames w.statuses (regular-on e.duration H x stands.regular none)
+          (subst (λ U. IsTree U u.made u.frames) (sym told) (tree item refl)) (subst (λ U. IsStatuses U w.statuses) (sym told) statuses-after) (subst (λ U. Each (IsNamed U u.made) w.statuses.live) (sym told) named-after)))

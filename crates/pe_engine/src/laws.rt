@@ -1,0 +1,14 @@
+//! What the engine's proofs rest on.
+ghost use Rattle.pe_engine.specs.Laws.{EngineLaws};
+
+use pe_changes::{status_steps, store_steps};
+use pe_laws::history_laws;
+
+/// The laws of histories, and of a store and statuses that stand for them.
+pub(crate) fn engine_laws()
+    ensures { EngineLaws }
+{
+    history_laws();
+    store_steps();
+    status_steps();
+}

@@ -1,0 +1,62 @@
+//! What documents that go take along.
+ghost use Rattle.std.specs.Prelude.{◌≡◌, ◌∷◌, [], ℕ, Some, IsTrue, IfOk, OnOk};
+ghost use Rattle.pe_rules.specs.History.{Step, History};
+ghost use Rattle.pe_rules.specs.Current.{ends, document_in};
+ghost use Rattle.pe_rules.specs.Changes.{changes_after};
+ghost use Rattle.pe_rules.specs.Replies.{replied, is_regular};
+ghost use Rattle.pe_changes.specs.Parts.{IsStore, IsStatuses, AreGoverned};
+ghost use Rattle.pe_changes.specs.StoreSteps.{IsEnded};
+ghost use Rattle.pe_engine.specs.Leaving.{numbers_of, without_documents};
+ghost use Rattle.pe_engine.specs.Rows.{blocks};
+
+use crate::engine::Engine;
+use crate::row::Row;
+use pe_base::{DocNo, Millis, Steps};
+use pe_changes::changes_of_end;
+use pe_events::Change;
+use pe_status::Statuses;
+use std::alloc::AllocError;
+use std::sync::ledger::Ledger;
+
+/// Ends the statuses of these documents.
+fn end_statuses(statuses: &mut Statuses, gone: &[Row])
+    ensures live { statuses.new.live ≡ without_documents (numbers_of gone.now) statuses.old.live }
+    ensures given { statuses.new.given ≡ statuses.old.given }
+{
+    for row in gone {
+        statuses.gone(row.doc);
+    }
+}
+
+impl Engine {
+    /// Ends what these documents had, which their frames do not show any more: their statuses, and the
+    /// entries that hold while the first of them is current, which is the one whose frame the event names
+    /// (Permissions, "lifetime"). The changes are those of the statuses that stay.
+    pub(crate) fn leave<L: Ledger>(
+        &mut self,
+        first: DocNo,
+        gone: &[Row],
+        now: Millis,
+        steps: &mut Steps<L>,
+    ) -> Result<Vec<Change>, AllocError>
+        ensures rest { OnOk result (self.new ≡ record self.old { store = self.new.store; statuses = self.new.statuses }) }
+        ensures live { OnOk result (self.new.statuses.live ≡ without_documents (numbers_of gone.now) self.old.statuses.live) }
+        ensures given { OnOk result (self.new.statuses.given ≡ self.old.statuses.given) }
+        ensures store { OnOk result (IsEnded first self.old.store self.new.store) }
+        ensures changes { (duration : ℕ) (H : History) (s : Step) (f : ℕ) → IsTrue (is_regular duration H) → IsTrue (ends (f ∷ []) s.event) → document_in (replied duration H) f ≡ Some first
+            → IsStore (replied duration H) now self.old.store → IsStatuses (s ∷ replied duration H) self.new.statuses
+            → AreGoverned (s ∷ replied duration H) (λ x. x.doc) blocks self.new.frames.entries self.new.statuses.live
+            → IfOk result (λ changes. changes.items ≡ changes_after (replied duration H) (s ∷ replied duration H) now) }
+    {
+        end_statuses(&mut self.statuses, gone);
+        let ended = self.store.end_page(first)?;
+        changes_of_end(
+            self.alloc,
+            &ended,
+            &self.statuses,
+            &self.frames,
+            now,
+            steps,
+        )
+    }
+}
