@@ -116,7 +116,7 @@ module _ (laws : EngineLaws) where
       (subst (Each (λ (x : Status). x.document ≤ length T)) (sym is.live) (each-all (IsKept T) (λ (x : Status). x.document ≤ length T) _ within (laws.history.statuses.live_kept T)))
     where
       within : (x : Status) → IsKept T x → x.document ≤ length T
-      within x kept = let n = kept.1.0 in let d = kept.1.1.1.0 in omega arith
+      within x kept = let n = kept.1 in let d = kept.3 in omega arith
 
   -- their frames keep the handles
   pub named-stays : (s : Step) (T : RepliedHistory) (ms : List Made) (m : Made) (live : List Registered) → Each (λ r. r.doc.doc ≤ length T) live → Each (IsNamed T ms) live → Each (IsNamed (s ∷ T) (ms ++ m ∷ [])) live

@@ -1,6 +1,7 @@
 -- The statuses that go with documents.
-use Rattle.std.proofs.Common.{◌≡◌, ℕ, suc, ◌≤◌, Bool, true, false, not, ◌&&◌, ◌||◌, ◌==◌, List, [], ◌∷◌, map, length, Option, Some, None, refl, sym, ◌∙◌, ap, subst, arith, cond, true≢false}
+use Rattle.std.proofs.Common.{◌≡◌, ℕ, suc, ◌+◌, ◌<◌, ◌≤◌, get_or, drop, drop-cons, Bool, true, false, not, ◌&&◌, ◌||◌, ◌==◌, List, [], ◌∷◌, map, length, Option, Some, None, refl, sym, ◌∙◌, ap, subst, arith, cond, true≢false}
 use Rattle.std.specs.Prelude.{filter}
+use Rattle.std.proofs.Math.ListN.{drop_of_length-le}
 use Rattle.std.specs.List.{list_any}
 use Rattle.std.proofs.lemmas.Bool.Decides.{Decides-eqb, nat_tests}
 use Rattle.pe_arena.specs.declared.handle.Handle.{Handle}
@@ -40,6 +41,18 @@ without-is (d ∷ ds) rs =
     neither : (a b : Bool) → (not a && not b) ≡ not (a || b)
     neither true b = refl
     neither false b = refl
+
+-- one document after another
+pub left-more : (xs : List Row) (rs : List Registered) (i : ℕ) (x : Row) → i < length xs → x ≡ get_or xs i x → without_documents (numbers_of (drop i xs)) rs ≡ without_documents (numbers_of (drop (i + 1) xs)) (without_document x.doc rs)
+unfolding without_documents
+left-more xs rs i x lt is =
+    let next : suc i ≡ i + 1 = omega arith in
+    ap (λ (ys : List Row). without_documents (numbers_of ys) rs) (drop-cons xs i x lt) ∙ ap (λ (y : Row). without_documents (numbers_of (drop (suc i) xs)) (without_document y.doc rs)) (sym is)
+    ∙ ap (λ (n : ℕ). without_documents (numbers_of (drop n xs)) (without_document x.doc rs)) next
+
+pub left-all : (xs : List Row) (rs : List Registered) (i : ℕ) → length xs ≤ i → without_documents (numbers_of (drop i xs)) rs ≡ rs
+unfolding without_documents
+left-all xs rs i le = ap (λ (ys : List Row). without_documents (numbers_of ys) rs) (drop_of_length-le xs le)
 
 -- ---- frames with the handles of their documents' chains
 
@@ -87,11 +100,14 @@ count-with h x (e ∷ es) same keep = rw (same.0) (by_test (keep e.doc.doc) (cou
     by_test true rest = ap suc rest
     by_test false rest = rest
 
+not-none : (n : ℕ) → (suc n == 0) ≡ false
+not-none n = grind (arith, nat_tests)
+
 -- a number is one of the documents' where some frame shows it
 any-counted : (d : ℕ) (es : List (Entry Row)) → is_gone (numbers_of (map (λ e. e.doc) es)) d ≡ not (shown_count (λ x. d == x) es == 0)
 any-counted d [] = refl
 any-counted d (e ∷ es) = elim (d == e.doc.doc) as (λ b. (b || is_gone (numbers_of (map (λ z. z.doc) es)) d) ≡ not (length (cond b (e ∷ filter (λ (z : Entry Row). d == z.doc.doc) es) (filter (λ (z : Entry Row). d == z.doc.doc) es)) == 0)) [
-  | true ↦ refl
+  | true ↦ sym (ap not (not-none (shown_count (λ x. d == x) es)))
   | false ↦ any-counted d es
 ]
 
@@ -101,7 +117,7 @@ found-counted keep (e ∷ es) h x is passes = by_tests (same_handle e.handle h) 
   where
     by_tests : (a b : Bool) → keep e.doc.doc ≡ b → cond a (Some e) (entry_of es h) ≡ Some x → (entry_of es h ≡ Some x → keep x.doc.doc ≡ true → (shown_count keep es == 0) ≡ false)
         → (length (cond b (e ∷ filter (λ (z : Entry Row). keep z.doc.doc) es) (filter (λ (z : Entry Row). keep z.doc.doc) es)) == 0) ≡ false
-    by_tests a true q z older = refl
+    by_tests a true q z older = not-none (shown_count keep es)
     by_tests true false q z older = let i : e ≡ x = cc in absurd (true≢false (sym passes ∙ ap (λ (y : Entry Row). keep y.doc.doc) (sym i) ∙ q))
     by_tests false false q z older = older z passes
 
@@ -152,7 +168,7 @@ module _ (laws : HistoryLaws) (s : Step) (T : RepliedHistory) (ms : List Made) (
       (each-both (λ r. r.doc.doc ≤ length T) (λ r. (is_current T r.doc.doc ≡ true) × IsFound T ms es r) live within (each-both (λ r. is_current T r.doc.doc ≡ true) (IsFound T ms es) live current found))
     where
       by_status : (r : Registered) → (r.doc.doc ≤ length T) × ((is_current T r.doc.doc ≡ true) × IsFound T ms es r) → not (is_gone (numbers_of gone) r.doc.doc) ≡ is_current (s ∷ T) r.doc.doc
-      by_status r (le, cur, there) =
+      by_status r (le, (cur, there)) =
           let d = r.doc.doc in
           let U = list_any (λ g. g == f) (frames_above T d) in
           let some : (shown_count (λ x. d == x) ws == 0) ≡ false = ap (λ n. n == 0) (same (λ x. d == x)) ∙ found-counted (λ x. d == x) es r.doc.at there.entry there.at ((Decides-eqb d there.entry.doc.doc).1 (sym there.document)) in

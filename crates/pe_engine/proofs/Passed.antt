@@ -1,7 +1,7 @@
 -- Time that has passed.
 use Rattle.std.proofs.Common.{◌≡◌, ℕ, ◌≤◌, List, [], ◌∷◌, length, Result, Ok, Err, IfOk, refl, sym, ◌∙◌, ap, subst, arith}
 use Rattle.std.specs.Prelude.{OnOk}
-use Rattle.std.specs.Global.{Vec, AllocError}
+use Rattle.std.specs.Global.{Vec}
 use Rattle.pe_store.specs.Entries.{StoreValue}
 use Rattle.pe_events.specs.declared.answer.Change.{Change}
 use Rattle.pe_rules.specs.History.{RepliedHistory, History, clock}
@@ -40,7 +40,7 @@ module _ (laws : EngineLaws) where
         });
       }
 
-  pub passed-ok : (e u : EngineValue) (H : History) (now : ℕ) (r : Result (Vec Change) AllocError) → StandsFor e H → e.clock ≤ now → OnOk r (u ≡ record e { store = u.store })
+  pub passed-ok : {E : Type 0} (e u : EngineValue) (H : History) (now : ℕ) (r : Result (Vec Change) E) → StandsFor e H → e.clock ≤ now → OnOk r (u ≡ record e { store = u.store })
       → ((T : RepliedHistory) → clock T ≤ now → IsStore T (clock T) e.store → IsStatuses T e.statuses → AreGoverned T (λ (x : Row). x.doc) blocks e.frames.entries e.statuses.live → IfOk r (λ changes. changes.items ≡ changes_before T now))
       → ((T : RepliedHistory) → clock T ≤ now → IsStore T (clock T) e.store → OnOk r (IsStore T now u.store)) → IfOk r (HasPassed e u H now)
   passed-ok e u H now (Ok changes) s late rest brings leaves = passed e u H now changes s late rest brings leaves

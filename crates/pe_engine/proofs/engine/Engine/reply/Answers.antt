@@ -4,5 +4,4 @@ use Rattle.pe_engine.proofs.engine.Engine.reply.Goals as goal
 
 pub returns-in-Ok-clause-replied : goal.returns-in-Ok-clause-replied
 returns-in-Ok-clause-replied g c = λ H s built.
-    reply-accepted c.args.self.now c.answer.new.self H (timed c.args.stamped.now.time c.args.stamped.now.event) c.in-Ok.answer c.without_changes.result (c.in-Ok.ensures.built H s built)
-    c.without_changes.ensures.answer c.without_changes.ensures.before c.without_changes.ensures.after
+    reply-accepted c.args.self.now c.accept.new.self H (timed c.args.stamped.now.time c.args.stamped.now.event) c.in-Ok.replies (c.in-Ok.ensures.built H s built)

@@ -1,0 +1,15 @@
+use Rattle.pe_engine.specs.Replying.{timed}
+use Rattle.pe_engine.proofs.Answering.{replied-memory, replied-refusal}
+use Rattle.pe_engine.proofs.NoChanges.{accepted-late}
+use Rattle.pe_engine.proofs.engine.Engine.reply_after_time.Goals as goal
+
+pub returns-in-Err-clause-plain : goal.returns-in-Err-clause-plain
+returns-in-Err-clause-plain g c = λ H s plain. replied-refusal _ _ H _ c.in-Err.refusal (c.in-Err.ensures.plain H s plain)
+
+pub returns-in_err-before-clause-plain : goal.returns-in_err-before-clause-plain
+returns-in_err-before-clause-plain g c = λ H s plain. replied-memory _ _ H _ c.from_residual.result c.from_residual.ensures.1
+
+pub returns-clause-plain : goal.returns-clause-plain
+returns-clause-plain g c = λ H s plain.
+    accepted-late c.engine_laws.ensures c.args.self.now c.answer.new.self c.lapse.new.self H (timed c.args.stamped.now.time c.args.stamped.now.event) c.in-Ok.answer c.in_ok-before.before c.new.result s (c.in-Ok.ensures.plain H s plain)
+    c.in_ok-before.ensures.rest c.in_ok-before.ensures.changes c.in_ok-before.ensures.stands c.new.ensures.items
