@@ -1,5 +1,7 @@
+use Rattle.std.proofs.Common.{subst}
 use Rattle.pe_engine.specs.Replying.{timed}
 use Rattle.pe_engine.proofs.Answering.{replied-memory, replied-refusal}
+use Rattle.pe_engine.proofs.Passed.{BringsChanges, LeavesStore}
 use Rattle.pe_engine.proofs.NoChanges.{accepted-late}
 use Rattle.pe_engine.proofs.engine.Engine.reply_after_time.Goals as goal
 
@@ -12,4 +14,7 @@ returns-in_err-before-clause-plain g c = λ H s plain. replied-memory _ _ H _ c.
 pub returns-clause-plain : goal.returns-clause-plain
 returns-clause-plain g c = λ H s plain.
     accepted-late c.engine_laws.ensures c.args.self.now c.answer.new.self c.lapse.new.self H (timed c.args.stamped.now.time c.args.stamped.now.event) c.in-Ok.answer c.in_ok-before.before c.new.result s (c.in-Ok.ensures.plain H s plain)
-    c.in_ok-before.ensures.rest c.in_ok-before.ensures.changes c.in_ok-before.ensures.stands c.new.ensures.items
+    c.in_ok-before.ensures.rest
+    (subst (λ t. BringsChanges c.answer.new.self t c.in_ok-before.before) c.of.ensures c.in_ok-before.ensures.changes)
+    (subst (λ t. LeavesStore c.answer.new.self t c.lapse.new.self.store) c.of.ensures c.in_ok-before.ensures.stands)
+    c.new.ensures.items
