@@ -17,7 +17,8 @@ use Rattle.pe_rules.specs.Changes.{changes_before, changes_after}
 use Rattle.pe_rules.specs.Replies.{replied, accepts_in, reply_in, answer_of}
 use Rattle.pe_engine.specs.declared.replies.Replies.{Replies}
 use Rattle.pe_engine.specs.StandsFor.{EngineValue, StandsFor}
-use Rattle.pe_engine.specs.Stepping.{is_answered, IsAcceptedReply, IsRefusedReply, IsReplyBy, IsReply, IsSyntaxRefusal}
+use Rattle.pe_engine.specs.Replying.{IsAcceptedReply}
+use Rattle.pe_engine.specs.Stepping.{is_answered, IsRefusedReply, IsReplyBy, IsReply, IsSyntaxRefusal}
 use Rattle.pe_output.specs.Built.{is_built_event, as_built, reading_built}
 use Rattle.pe_output.specs.OutputText.{changes_text, event_text, line_text, history_after, history_after_line, is_refused}
 use Rattle.pe_session.specs.Judging.{is_refusal, replies_text, Stands, Judged}
