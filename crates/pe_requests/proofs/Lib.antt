@@ -4,3 +4,6 @@ pub mod Known
 pub mod Faults
 pub mod Pairs
 pub mod Reading
+pub mod Going
+pub mod Leaving
+pub mod Asking
