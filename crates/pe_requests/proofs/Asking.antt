@@ -1,5 +1,5 @@
 -- What the prompts stand for after a request that makes a prompt or joins one.
-use Rattle.std.proofs.Common.{◌≡◌, ℕ, suc, ◌+◌, ◌<◌, ◌≤◌, Bool, true, false, ◌&&◌, ◌==◌, cond, nat_eq, List, [], ◌∷◌, ◌++◌, length, map, filter, Option, Some, None, unwrap_or, option_map, option_and_then, option_to_list, refl, sym, ◌∙◌, ap, subst, arith}
+use Rattle.std.proofs.Common.{◌≡◌, ℕ, suc, ◌+◌, ◌<◌, ◌≤◌, Bool, true, false, ◌&&◌, ◌==◌, cond, nat_eq, List, [], ◌∷◌, ◌++◌, length, map, filter, Option, Some, None, is_some, unwrap_or, option_map, option_and_then, option_to_list, refl, sym, ◌∙◌, ap, subst, arith}
 use Rattle.std.specs.List.{find}
 use Rattle.std.specs.Map.{lookup}
 use Rattle.std.proofs.lemmas.List.{map-append}
@@ -10,7 +10,6 @@ use Rattle.pe_arena.specs.declared.handle.DocRef.{DocRef}
 use Rattle.pe_store.specs.Pairs.{Pair, is_same_pair}
 use Rattle.pe_prompts.specs.declared.fault.Asked.{Asked}
 use Rattle.pe_prompts.specs.declared.fault.Asked.TheVariants.{New, Joined}
-use Rattle.pe_prompts.specs.declared.given.Given.{Given}
 use Rattle.pe_prompts.specs.declared.queue.Prompt.{Prompt}
 use Rattle.pe_prompts.specs.Pending.{Pending, pair_of, number_for, with_request, joined}
 use Rattle.pe_prompts.specs.Queues as queue
@@ -18,14 +17,14 @@ use Rattle.pe_prompts.specs.Queues.{Queues, HasAsked}
 use Rattle.pe_events.specs.Timed.{Timed}
 use Rattle.pe_events.specs.declared.answer.Answer.TheVariants as answer
 use Rattle.pe_events.specs.declared.event.Event.TheVariants as event
-use Rattle.pe_rules.specs.History.{StepAnswer, Replied, Step, RepliedHistory, History, some_if}
+use Rattle.pe_rules.specs.History.{Replied, Step, RepliedHistory, History, some_if}
 use Rattle.pe_rules.specs.Numbering.{numbers_made, makes_prompt, is_prompt}
 use Rattle.pe_rules.specs.Embedders.{page}
 use Rattle.pe_rules.specs.Current.{is_current}
 use Rattle.pe_rules.specs.Settings.{pair_for, prompt_pair, prompt_page}
 use Rattle.pe_rules.specs.Settings as settings
 use Rattle.pe_rules.specs.PermissionState.{permission_state}
-use Rattle.pe_rules.specs.Prompts.{prompt_replied, requesting_document, requesting_document_of, requests, is_settled, waiting, is_pending, is_prompt_of, pending}
+use Rattle.pe_rules.specs.Prompts.{prompt_replied, requesting_document, requesting_document_of, is_settled, waiting, is_pending, is_prompt_of, pending}
 use Rattle.pe_rules.specs.Causes.{prompt_to_join}
 use Rattle.pe_rules.specs.Replies.{answer_of_request, answer_of, step_answer, replied, is_regular}
 use Rattle.pe_laws.specs.HistoryLaws.{HistoryLaws}
@@ -33,14 +32,14 @@ use Rattle.pe_laws.specs.Effects.{effects}
 use Rattle.pe_laws.specs.EffectsLaws.{effects_of}
 use Rattle.pe_laws.specs.PromptsLaws.{step_of}
 use Rattle.pe_laws.specs.StatusesLaws.{Each}
-use Rattle.pe_requests.specs.Parts.{page_of_prompt, given_by, IsPendingPrompt, IsPrompts}
+use Rattle.pe_requests.specs.Parts.{given_by, IsPendingPrompt, IsPrompts}
 use Rattle.pe_requests.specs.PromptSteps.{IsAsking, answer_of_asked}
 use Rattle.pe_requests.proofs.Lists.{each-weaker, each-both, each-append, each-passes, each-unmap, append-none, same-numbers, is-same, not-same, swapped}
 use Rattle.pe_requests.proofs.Rising.{AreRising, pending-rising}
 use Rattle.pe_requests.proofs.Known.{known, known-same, page-some, page-stays, beyond, prompt-unmade, prompt-older}
 use Rattle.pe_requests.proofs.Pairs.{joins-by-request, request-answer}
 use Rattle.pe_requests.proofs.Reading.{within}
-use Rattle.pe_requests.proofs.Going.{kept-on}
+use Rattle.pe_requests.proofs.Going.{kept-on, quiet}
 
 -- ---- a request
 
@@ -295,7 +294,17 @@ module _ (laws : HistoryLaws) where
               each-beside s T n asker (queue.pending old top) is_told (all-kept T old top is)
               (each-weaker (λ x. is_prompt_of T top x.0 ≡ true) (λ x. (n == x.0) ≡ false) (queue.pending old top) (λ x there. elsewhere top x.0 other there) (each-of-page T old top is))
 
-  -- ---- either
+  -- ---- what is told of a request
+
+  pub stated : (duration : ℕ) (H : History) (e : Timed) (frame : ℕ) (name : List ℕ) (found : State) (queues : Queues) → e.event ≡ event.Request frame name
+      → answer_of duration (replied duration H) e.time e.event ≡ answer.Stated found → IsPrompts (replied duration H) queues → IsPrompts (replied duration (e ∷ H)) queues
+  stated duration H e frame name found queues is_request tells is =
+      let T = replied duration H in
+      let s = step_of duration H e in
+      let item : s.item ≡ Replied (answer.Stated found) = ap (step_answer duration T e.time) is_request ∙ ap Replied (ap (answer_of duration T e.time) (sym is_request) ∙ tells) in
+      quiet laws duration H e queues
+      (ap (λ x. (effects x s.item).requests) is_request ∙ ap (λ i. is_some (prompt_replied i)) item)
+      (ap (λ x. (effects x s.item).settles_prompt) is_request) (ap (λ x. (effects x s.item).ends_documents) is_request) is
 
   pub told : (duration : ℕ) (H : History) (e : Timed) (frame : ℕ) (name : List ℕ) (asking : Prompt) (asker : DocRef) (said : Asked) (old new : Queues) → is_regular duration H ≡ true
       → e.event ≡ event.Request frame name → IsAsking (replied duration H) frame name asker.doc asking.page (pair_of asking) → asking.waiting ≡ asker ∷ []

@@ -1,5 +1,5 @@
 -- Why a prompt is not shown, and the first cause of an event that answers it.
-use Rattle.std.proofs.Common.{◌≡◌, ℕ, Bool, true, false, not, ◌&&◌, ◌==◌, cond, List, [], ◌∷◌, length, map, Option, Some, None, is_none, unwrap_or, option_map, option_and_then, refl, sym, ◌∙◌, ap}
+use Rattle.std.proofs.Common.{◌≡◌, ℕ, Bool, true, false, not, ◌&&◌, ◌==◌, cond, [], ◌∷◌, length, map, Option, Some, None, is_none, unwrap_or, option_map, option_and_then, refl, sym, ◌∙◌, ap}
 use Rattle.pe_prompts.specs.declared.fault.AnswerFault.{AnswerFault}
 use Rattle.pe_prompts.specs.declared.fault.AnswerFault.TheVariants as fault
 use Rattle.pe_prompts.specs.Pending.{Pending, prompt_in, is_first}
@@ -19,7 +19,7 @@ use Rattle.pe_rules.specs.Causes.{first_some, names_unknown, names_settled, name
 use Rattle.pe_rules.specs.Replies.{replied}
 use Rattle.pe_laws.specs.HistoryLaws.{HistoryLaws}
 use Rattle.pe_requests.specs.Parts.{given_by, IsPrompts}
-use Rattle.pe_requests.specs.PromptSteps.{first_fault, first_cause, cause_of_fault}
+use Rattle.pe_requests.specs.PromptSteps.{first_named_fault, first_named_cause, cause_of_fault}
 use Rattle.pe_requests.proofs.Lists.{is-same, swapped}
 use Rattle.pe_requests.proofs.Known.{page-none, page-some, has-page}
 
@@ -37,13 +37,13 @@ causes-of true false true shown = refl
 causes-of true false false false = refl
 causes-of true false false true = refl
 
-first-fault-is : (T : RepliedHistory) (k : ℕ) (out : Outcome) (life : EventLife) → first_fault T (event.Answered k out life) ≡ faults (is_prompt T k) (is_settled T k) (length (waiting T k) == 0) (is_shown T k)
+first-named-fault-is : (T : RepliedHistory) (k : ℕ) (out : Outcome) (life : EventLife) → first_named_fault T (event.Answered k out life) ≡ faults (is_prompt T k) (is_settled T k) (length (waiting T k) == 0) (is_shown T k)
 unfolding names_unknown names_settled names_closed names_not_shown
-first-fault-is T k out life = refl
+first-named-fault-is T k out life = refl
 
-first-cause-is : (T : RepliedHistory) (k : ℕ) (out : Outcome) (life : EventLife) → first_cause T (event.Answered k out life) ≡ causes (is_prompt T k) (is_settled T k) (length (waiting T k) == 0) (is_shown T k)
+first-named-cause-is : (T : RepliedHistory) (k : ℕ) (out : Outcome) (life : EventLife) → first_named_cause T (event.Answered k out life) ≡ causes (is_prompt T k) (is_settled T k) (length (waiting T k) == 0) (is_shown T k)
 unfolding names_unknown names_settled names_closed names_not_shown
-first-cause-is T k out life = refl
+first-named-cause-is T k out life = refl
 
 -- ---- pending prompts and their numbers
 
@@ -111,12 +111,12 @@ module _ (laws : HistoryLaws) where
           ∙ by_settled paged.0 made paged.1 (is_settled T k) refl
 
   pub refusal : (duration : ℕ) (H : History) (queues : Queues) (k : ℕ) (out : Outcome) (life : EventLife) → IsPrompts (replied duration H) queues
-      → queue.refusal queues k ≡ first_fault (replied duration H) (event.Answered k out life)
-  refusal duration H queues k out life is = fault-is duration H queues k is ∙ sym (first-fault-is (replied duration H) k out life)
+      → queue.refusal queues k ≡ first_named_fault (replied duration H) (event.Answered k out life)
+  refusal duration H queues k out life is = fault-is duration H queues k is ∙ sym (first-named-fault-is (replied duration H) k out life)
 
-  pub first-causes : (duration : ℕ) (H : History) (queues : Queues) (k : ℕ) (out : Outcome) (life : EventLife) → IsPrompts (replied duration H) queues
-      → first_cause (replied duration H) (event.Answered k out life) ≡ option_and_then cause_of_fault (queue.refusal queues k)
-  first-causes duration H queues k out life is =
+  pub named-cause : (duration : ℕ) (H : History) (queues : Queues) (k : ℕ) (out : Outcome) (life : EventLife) → IsPrompts (replied duration H) queues
+      → first_named_cause (replied duration H) (event.Answered k out life) ≡ option_and_then cause_of_fault (queue.refusal queues k)
+  named-cause duration H queues k out life is =
       let T = replied duration H in
-      first-cause-is T k out life ∙ causes-of (is_prompt T k) (is_settled T k) (length (waiting T k) == 0) (is_shown T k)
+      first-named-cause-is T k out life ∙ causes-of (is_prompt T k) (is_settled T k) (length (waiting T k) == 0) (is_shown T k)
       ∙ ap (option_and_then cause_of_fault) (sym (fault-is duration H queues k is))

@@ -1,7 +1,6 @@
 -- What the prompts stand for after a step that leaves the requests, and after an answer.
-use Rattle.std.proofs.Common.{◌≡◌, ℕ, suc, ◌<◌, ◌≤◌, Bool, true, false, not, ◌||◌, ◌==◌, nat_eq, cond, List, [], ◌∷◌, length, map, filter, Option, Some, None, option_map, refl, sym, ◌∙◌, ap, subst, arith}
+use Rattle.std.proofs.Common.{◌≡◌, ℕ, ◌<◌, ◌≤◌, Bool, true, false, not, ◌||◌, ◌==◌, nat_eq, cond, List, [], ◌∷◌, length, map, filter, Option, Some, None, option_map, refl, sym, ◌∙◌, ap, subst, arith}
 use Rattle.std.specs.Map.{remove_entry}
-use Rattle.std.proofs.lemmas.Bool.Decides.{nat_tests}
 use Rattle.pe_prompts.specs.declared.given.Given.{Given}
 use Rattle.pe_prompts.specs.declared.queue.Prompt.{Prompt}
 use Rattle.pe_prompts.specs.Pending.{Pending}
@@ -21,7 +20,7 @@ use Rattle.pe_laws.specs.EffectsLaws.{effects_of}
 use Rattle.pe_laws.specs.PromptsLaws.{step_of}
 use Rattle.pe_laws.specs.StatusesLaws.{Each}
 use Rattle.pe_requests.specs.Parts.{page_of_prompt, given_by, IsPendingPrompt, IsPrompts}
-use Rattle.pe_requests.proofs.Lists.{each-weaker, each-both, filter-all, same-numbers, is-same, not-same}
+use Rattle.pe_requests.proofs.Lists.{each-weaker, each-both, filter-all, same-numbers, not-same}
 use Rattle.pe_requests.proofs.Rising.{AreRising, pending-rising}
 use Rattle.pe_requests.proofs.Known.{known, known-same, page-none, page-stays}
 use Rattle.pe_requests.proofs.Reading.{within}

@@ -1,5 +1,5 @@
 -- What the end of documents leaves of the pending prompts.
-use Rattle.std.proofs.Common.{◌≡◌, ℕ, suc, ◌≤◌, Bool, true, false, not, ◌&&◌, ◌||◌, ◌==◌, cond, nat_eq, List, [], ◌∷◌, length, map, filter, Some, refl, sym, ◌∙◌, ap, subst, arith}
+use Rattle.std.proofs.Common.{◌≡◌, ℕ, suc, ◌≤◌, Bool, true, false, not, ◌&&◌, ◌==◌, cond, nat_eq, List, [], ◌∷◌, length, map, filter, Some, refl, sym, ◌∙◌, ap, subst, arith}
 use Rattle.std.specs.Map.{lookup}
 use Rattle.std.proofs.lemmas.Bool.Decides.{nat_tests}
 use Rattle.pe_arena.specs.declared.handle.DocRef.{DocRef}
@@ -22,7 +22,7 @@ use Rattle.pe_laws.specs.PromptsLaws.{step_of}
 use Rattle.pe_laws.specs.StatusesLaws.{Each}
 use Rattle.pe_requests.specs.Parts.{IsPendingPrompt, IsPrompts}
 use Rattle.pe_requests.specs.PromptSteps.{AreEnded, left_by_all}
-use Rattle.pe_requests.proofs.Lists.{each-weaker, each-both, each-passes, each-unmap, filter-agree, filter-all, filter-neither, map-filter, length-map, not-same}
+use Rattle.pe_requests.proofs.Lists.{each-weaker, each-both, each-passes, each-unmap, filter-agree, filter-neither, map-filter, length-map, not-same}
 use Rattle.pe_requests.proofs.Reading.{within}
 use Rattle.pe_requests.proofs.Going.{known-left}
 

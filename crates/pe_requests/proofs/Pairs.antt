@@ -2,7 +2,6 @@
 use Rattle.std.proofs.Common.{◌≡◌, ℕ, ◌+◌, Bool, true, false, ◌&&◌, cond, nat_le, List, [], ◌∷◌, length, map, filter, Option, Some, None, is_none, unwrap_or, option_map, option_and_then, refl, sym, ◌∙◌, ap}
 use Rattle.std.specs.List.{find}
 use Rattle.pe_base.specs.declared.limits.TheConstants.{PENDING_LIMIT}
-use Rattle.pe_base.specs.declared.state.State.{State}
 use Rattle.pe_base.specs.declared.state.State.TheVariants as state
 use Rattle.pe_store.specs.Pairs.{Pair, is_same_pair}
 use Rattle.pe_prompts.specs.declared.queue.Prompt.{Prompt}

@@ -1,11 +1,13 @@
 -- What is read of the prompts: their numbers, and a pending prompt.
-use Rattle.std.proofs.Common.{◌≡◌, ℕ, suc, ◌+◌, ◌<◌, ◌≤◌, Bool, true, false, ◌==◌, cond, List, [], ◌∷◌, length, map, Option, Some, None, is_some, option_map, option_and_then, refl, sym, ◌∙◌, ap, subst, arith}
+use Rattle.std.proofs.Common.{◌≡◌, ℕ, ◌+◌, ◌<◌, ◌≤◌, Bool, true, false, ◌==◌, cond, nat_eq, List, [], ◌∷◌, length, Option, Some, None, is_some, option_map, option_and_then, refl, sym, ◌∙◌, ap, subst, arith}
+use Rattle.std.specs.Map.{lookup}
 use Rattle.pe_arena.specs.declared.handle.DocRef.{DocRef}
+use Rattle.pe_prompts.specs.declared.fault.Asked.{Asked}
 use Rattle.pe_prompts.specs.declared.given.Given.{Given}
 use Rattle.pe_prompts.specs.declared.queue.Prompt.{Prompt}
 use Rattle.pe_prompts.specs.Pending.{Pending, prompt_in}
 use Rattle.pe_prompts.specs.Queues as queue
-use Rattle.pe_prompts.specs.Queues.{Queues}
+use Rattle.pe_prompts.specs.Queues.{Queues, HasAsked, HasSettled}
 use Rattle.pe_events.specs.declared.answer.Answer.TheVariants as answer
 use Rattle.pe_events.specs.declared.event.Event.TheVariants as event
 use Rattle.pe_events.specs.declared.event.EventLife.{EventLife}
@@ -16,7 +18,8 @@ use Rattle.pe_rules.specs.Prompts.{is_settled, waiting}
 use Rattle.pe_rules.specs.Replies.{state_replied, answer_of}
 use Rattle.pe_laws.specs.HistoryLaws.{HistoryLaws}
 use Rattle.pe_laws.specs.StatusesLaws.{Each}
-use Rattle.pe_requests.specs.Parts.{page_of_prompt, given_by, IsPendingPrompt, IsPrompts}
+use Rattle.pe_requests.specs.PromptSteps.{AreBelow}
+use Rattle.pe_requests.specs.Parts.{given_by, IsPendingPrompt, IsPrompts}
 use Rattle.pe_requests.proofs.Lists.{length-map, same-numbers, each-unmap}
 use Rattle.pe_requests.proofs.Rising.{pending-within}
 use Rattle.pe_requests.proofs.Known.{page-none}
@@ -60,9 +63,38 @@ settles duration T now queues k out life requests is h = by_prompt (queue.prompt
         let count : length (waiting T k) ≡ length requests = ap length (sym pending.documents) ∙ length-map (λ (r : DocRef). r.doc) p.waiting ∙ ap length same in
         answered-is duration T now k out life ∙ ap (λ n. answer.Settled n (state_replied out)) count
 
+-- ---- the numbers that were given
+
+pub below-told : (number next : ℕ) (join : Option ℕ) (asking : Prompt) (asker : DocRef) (said : Asked) (old new : Queues) → said ≡ queue.asked_of number join → HasAsked old new asking asker said
+    → number < next → AreBelow number old → AreBelow next new
+below-told number next join asking asker said old new is asked more low = by_join join (subst (HasAsked old new asking asker) is asked)
+  where
+    by_join : (o : Option ℕ) → HasAsked old new asking asker (queue.asked_of number o) → AreBelow next new
+    by_join (Some j) has k given = let less : k < number = low k (subst (λ g. is_some (lookup (nat_eq k) g) ≡ true) has.0 given) in omega arith
+    by_join None has k given = by_number (number == k) refl (subst (λ o. is_some o ≡ true) (has.0 k) given)
+      where
+        by_number : (b : Bool) → (number == k) ≡ b → is_some (cond b (Some (record { page = asking.page; settled = false })) (queue.given_of old k)) ≡ true → k < next
+        by_number true same e = let here : number ≡ k = same-numbers number k same in omega arith
+        by_number false other e = let less : k < number = low k e in omega arith
+
+pub below-answered : (number k : ℕ) (old new : Queues) → HasSettled old new k → AreBelow number old → AreBelow number new
+below-answered number k old new settled low j given = by_number (k == j) refl
+  where
+    known-alike : (a b : Option Given) → option_map (λ (x : Given). x.page) a ≡ option_map (λ (x : Given). x.page) b → is_some a ≡ is_some b
+    known-alike None None e = refl
+    known-alike None (Some g) e = cc
+    known-alike (Some g) None e = cc
+    known-alike (Some g) (Some h) e = refl
+
+    by_number : (b : Bool) → (k == j) ≡ b → j < number
+    by_number true same =
+        let here : k ≡ j = same-numbers k j same in
+        low j (ap (λ n. is_some (queue.given_of old n)) (sym here) ∙ sym (known-alike (queue.given_of new k) (queue.given_of old k) settled.page) ∙ ap (λ n. is_some (queue.given_of new n)) here ∙ given)
+    by_number false other = low j (ap is_some (sym (settled.others j other)) ∙ given)
+
 module _ (laws : HistoryLaws) where
-  pub below : (T : RepliedHistory) (queues : Queues) (k : ℕ) → IsPrompts T queues → is_some (queue.given_of queues k) ≡ true → k < length T + 1
-  below T queues k is given = by_made (is_prompt T k) refl
+  pub below : (T : RepliedHistory) (queues : Queues) → IsPrompts T queues → AreBelow (length T + 1) queues
+  below T queues is k given = by_made (is_prompt T k) refl
     where
       by_made : (b : Bool) → is_prompt T k ≡ b → k < length T + 1
       by_made true made = let bound : k ≤ length T = (laws.numbering.prompt_within T k made).1 in omega arith

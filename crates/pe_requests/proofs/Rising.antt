@@ -1,5 +1,5 @@
 -- The numbers of pending prompts rise, and are positions of the history.
-use Rattle.std.proofs.Common.{◌≡◌, ℕ, suc, ◌<◌, ◌≤◌, Bool, true, false, ◌&&◌, List, [], ◌∷◌, ◌++◌, length, filter, option_to_list, refl, sym, ap, arith, cond}
+use Rattle.std.proofs.Common.{ℕ, suc, ◌<◌, ◌≤◌, Bool, true, false, ◌&&◌, List, [], ◌∷◌, ◌++◌, length, filter, option_to_list, arith, cond}
 use Rattle.pe_rules.specs.History.{Step, RepliedHistory, some_if, all_answers}
 use Rattle.pe_rules.specs.Numbering.{numbers_made, makes_prompt}
 use Rattle.pe_rules.specs.Prompts.{is_pending, is_prompt_of, pending}

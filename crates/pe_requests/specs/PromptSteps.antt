@@ -2,6 +2,7 @@
 -- Permissions, "request permission to use"; the queue of prompts is this project's own.
 use Rattle.std.specs.Prelude.{◌≡◌, ℕ, ◌+◌, ◌<◌, Bool, false, not, ◌&&◌, nat_le, IsTrue, IsSome, List, [], ◌∷◌, length, Option, Some, None, is_none, option_map, option_and_then}
 use Rattle.pe_base.specs.declared.limits.TheConstants.{PENDING_LIMIT}
+use Rattle.pe_base.specs.declared.state.State.{State}
 use Rattle.pe_base.specs.declared.state.State.TheVariants as state
 use Rattle.pe_features.specs.Features.{feature_named}
 use Rattle.pe_arena.specs.declared.handle.DocRef.{DocRef}
@@ -39,8 +40,8 @@ use Rattle.pe_requests.specs.Parts.{IsPendingPrompt, IsPrompts}
 -- ---- refusals
 
 -- the first fault of the prompt that the event names, by the tests of the causes and in their order
-abbrev pub first_fault : RepliedHistory → Event → Option AnswerFault
-first_fault T e = first_some (λ (x : AnswerFault × Bool). some_if x.1 x.0) (
+abbrev pub first_named_fault : RepliedHistory → Event → Option AnswerFault
+first_named_fault T e = first_some (λ (x : AnswerFault × Bool). some_if x.1 x.0) (
     (fault.Unknown, names_unknown T e)
     ∷ (fault.Settled, names_settled T e)
     ∷ (fault.Closed, names_closed T e)
@@ -48,8 +49,8 @@ first_fault T e = first_some (λ (x : AnswerFault × Bool). some_if x.1 x.0) (
     ∷ [])
 
 -- the first cause of what the event names
-abbrev pub first_cause : RepliedHistory → Event → Option Cause
-first_cause T e = first_some (λ (x : Cause × Bool). some_if x.1 x.0) (
+abbrev pub first_named_cause : RepliedHistory → Event → Option Cause
+first_named_cause T e = first_some (λ (x : Cause × Bool). some_if x.1 x.0) (
     (cause.Unknown, names_unknown T e)
     ∷ (cause.Settled, names_settled T e)
     ∷ (cause.Closed, names_closed T e)
@@ -78,6 +79,10 @@ abbrev pub answer_of_asked : Asked → Answer
 answer_of_asked (New number) = answer.PromptMade number
 answer_of_asked (Joined number) = answer.PromptJoined number
 
+-- each number that was given is below this one
+abbrev pub AreBelow : ℕ → Queues → Type 0
+AreBelow number queues = (k : ℕ) → IsSome (queue.given_of queues k) → k < number
+
 -- ---- documents that end
 
 -- of the documents that were current before, these are the ones that are not after
@@ -97,9 +102,9 @@ pub record PromptSteps : Type 0 where
   pub start : IsPrompts [] (record { given = []; pages = [] })
   -- why a prompt is not shown is the first fault of an event that answers it, and gives the first cause of what that names
   pub refusal : (duration : ℕ) (H : History) (queues : Queues) (k : ℕ) (out : Outcome) (life : EventLife) → IsPrompts (replied duration H) queues
-      → queue.refusal queues k ≡ first_fault (replied duration H) (event.Answered k out life)
-  pub first_causes : (duration : ℕ) (H : History) (queues : Queues) (k : ℕ) (out : Outcome) (life : EventLife) → IsPrompts (replied duration H) queues
-      → first_cause (replied duration H) (event.Answered k out life) ≡ option_and_then cause_of_fault (queue.refusal queues k)
+      → queue.refusal queues k ≡ first_named_fault (replied duration H) (event.Answered k out life)
+  pub named_cause : (duration : ℕ) (H : History) (queues : Queues) (k : ℕ) (out : Outcome) (life : EventLife) → IsPrompts (replied duration H) queues
+      → first_named_cause (replied duration H) (event.Answered k out life) ≡ option_and_then cause_of_fault (queue.refusal queues k)
   -- the pending prompt that a request of the pair joins
   pub joins : (T : RepliedHistory) (queues : Queues) (top : ℕ) (pair : Pair) → IsPrompts T queues → queue.pending_of queues top pair ≡ prompt.pending_prompt_of T top pair
   pub joins_by_request : (T : RepliedHistory) (queues : Queues) (frame : ℕ) (name : List ℕ) (document top : ℕ) (pair : Pair) → IsPrompts T queues → IsAsking T frame name document top pair
@@ -109,8 +114,11 @@ pub record PromptSteps : Type 0 where
   pub exceeds : (T : RepliedHistory) (queues : Queues) (now frame : ℕ) (name : List ℕ) (document top : ℕ) (pair : Pair) → IsPrompts T queues → IsAsking T frame name document top pair
       → exceeds_pending T now (event.Request frame name)
       ≡ (is_prompt_state (Some (permission_state T now document pair.0)) && is_none (queue.pending_of queues top pair) && nat_le PENDING_LIMIT (length (queue.pending queues top)))
-  -- the numbers that were given are below the next position
-  pub below : (T : RepliedHistory) (queues : Queues) (k : ℕ) → IsPrompts T queues → IsSome (queue.given_of queues k) → k < length T + 1
+  -- the numbers that were given are below the next position; whatever the steps, a request gives one number at most, and an answer none
+  pub below : (T : RepliedHistory) (queues : Queues) → IsPrompts T queues → AreBelow (length T + 1) queues
+  pub below_told : (number next : ℕ) (join : Option ℕ) (asking : Prompt) (asker : DocRef) (said : Asked) (old new : Queues) → said ≡ queue.asked_of number join → HasAsked old new asking asker said
+      → number < next → AreBelow number old → AreBelow next new
+  pub below_answered : (number k : ℕ) (old new : Queues) → HasSettled old new k → AreBelow number old → AreBelow number new
   -- a pending prompt has the page, the pair and the documents of its number
   pub asked : (T : RepliedHistory) (queues : Queues) (k : ℕ) (p : Prompt) → IsPrompts T queues → queue.prompt_at queues k ≡ Some p → IsPendingPrompt T k p
   -- an event that answers it is answered with the number of its requests
@@ -126,6 +134,9 @@ pub record PromptSteps : Type 0 where
   -- a step that requests nothing, settles no prompt and ends no document leaves them
   pub quiet : (duration : ℕ) (H : History) (e : Timed) (queues : Queues) → (effects_of (step_of duration H e)).requests ≡ false → (effects_of (step_of duration H e)).settles_prompt ≡ false
       → (effects_of (step_of duration H e)).ends_documents ≡ false → IsPrompts (replied duration H) queues → IsPrompts (replied duration (e ∷ H)) queues
+  -- after a request that finds a state other than prompt
+  pub stated : (duration : ℕ) (H : History) (e : Timed) (frame : ℕ) (name : List ℕ) (found : State) (queues : Queues) → e.event ≡ event.Request frame name
+      → answer_of duration (replied duration H) e.time e.event ≡ answer.Stated found → IsPrompts (replied duration H) queues → IsPrompts (replied duration (e ∷ H)) queues
   -- after a request that makes a prompt or joins one
   pub told : (duration : ℕ) (H : History) (e : Timed) (frame : ℕ) (name : List ℕ) (asking : Prompt) (asker : DocRef) (said : Asked) (old new : Queues) → IsTrue (is_regular duration H)
       → e.event ≡ event.Request frame name → IsAsking (replied duration H) frame name asker.doc asking.page (pair_of asking) → asking.waiting ≡ asker ∷ []
