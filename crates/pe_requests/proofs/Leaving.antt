@@ -1,5 +1,5 @@
 -- What the end of documents leaves of the pending prompts.
-use Rattle.std.proofs.Common.{◌≡◌, ℕ, suc, ◌≤◌, Bool, true, false, not, ◌&&◌, ◌==◌, cond, nat_eq, List, [], ◌∷◌, length, map, filter, Some, refl, sym, ◌∙◌, ap, subst, arith}
+use Rattle.std.proofs.Common.{◌≡◌, ℕ, suc, ◌≤◌, Bool, true, false, not, ◌&&◌, ◌||◌, ◌==◌, cond, nat_eq, List, [], ◌∷◌, length, map, filter, Some, refl, sym, ◌∙◌, ap, subst, arith}
 use Rattle.std.specs.Map.{lookup}
 use Rattle.std.proofs.lemmas.Bool.Decides.{nat_tests}
 use Rattle.pe_arena.specs.declared.handle.DocRef.{DocRef}
@@ -9,9 +9,11 @@ use Rattle.pe_prompts.specs.Pending.{Pending, pair_of, if_awaited, left_by}
 use Rattle.pe_prompts.specs.Queues as queue
 use Rattle.pe_prompts.specs.Queues.{Queues}
 use Rattle.pe_events.specs.Timed.{Timed}
+use Rattle.pe_events.specs.declared.event.Event.{Event}
+use Rattle.pe_events.specs.declared.event.Event.TheVariants as event
 use Rattle.pe_rules.specs.History.{Step, RepliedHistory, History}
 use Rattle.pe_rules.specs.Numbering.{numbers_made, makes_prompt}
-use Rattle.pe_rules.specs.Current.{is_current}
+use Rattle.pe_rules.specs.Current.{ends, frames_above, is_current}
 use Rattle.pe_rules.specs.Activation.{is_one_of}
 use Rattle.pe_rules.specs.Settings.{prompt_pair, prompt_page}
 use Rattle.pe_rules.specs.Prompts.{requests, waiting, is_settled, is_pending, is_prompt_of, pending}
@@ -134,15 +136,28 @@ some-wait n h = by_test (n == 0) refl h
     by_test true is e = cc
     by_test false is e = grind (arith, nat_tests)
 
+the-frame : (f frame : ℕ) → ((f == frame) || false) ≡ true → f ≡ frame
+the-frame f frame h = by_test (f == frame) refl h
+  where
+    by_test : (b : Bool) → (f == frame) ≡ b → (b || false) ≡ true → f ≡ frame
+    by_test true is e = grind (arith, nat_tests)
+    by_test false is e = cc
+
+twice : (b : Bool) → not (not b) ≡ b
+twice true = refl
+twice false = refl
+
+-- a step that navigates or closes a frame ends what has that frame above it
+ends-one : (e : Event) (f : ℕ) (frames : List ℕ) → ends (f ∷ []) e ≡ true → ends frames e ≡ is_one_of frames f
+ends-one (event.Navigate frame url header) f frames h = ap (is_one_of frames) (sym (the-frame f frame h))
+ends-one (event.Close frame) f frames h = ap (is_one_of frames) (sym (the-frame f frame h))
+ends-one e f frames h = cc
+
 -- of the documents that wait, those are left that are still current
 left-current : (T U : RepliedHistory) (docs : List ℕ) (k : ℕ) → AreEnded T U docs → filter (λ d. not (is_one_of docs d)) (waiting T k) ≡ filter (is_current U) (waiting T k)
 left-current T U docs k ended =
     filter-agree (λ d. not (is_one_of docs d)) (is_current U) (waiting T k)
     (each-weaker (λ d. is_current T d ≡ true) (λ d. not (is_one_of docs d) ≡ is_current U d) (waiting T k) (λ d current. ap not (ended d current) ∙ twice (is_current U d)) (waiting-current T k))
-  where
-    twice : (b : Bool) → not (not b) ≡ b
-    twice true = refl
-    twice false = refl
 
 module _ (laws : HistoryLaws) where
   each-left : (s : Step) (T : RepliedHistory) (docs : List ℕ) (queues : Queues) (top : ℕ) → (effects_of s).requests ≡ false → AreEnded T (s ∷ T) docs → IsPrompts T queues
@@ -164,6 +179,17 @@ module _ (laws : HistoryLaws) where
         pair = laws.prompts.pair_older s T k le ∙ pending.pair;
         documents = documents-without docs p.waiting ∙ ap (filter (λ d. not (is_one_of docs d))) pending.documents ∙ left-current T (s ∷ T) docs k ended ∙ sym (laws.prompts.waiting_left s T k requests);
       }
+
+  -- of a current document, whether a navigation or a close of the frame ends it
+  pub ends-frame : (duration : ℕ) (H : History) (e : Timed) (f : ℕ) (docs : List ℕ) → ends (f ∷ []) e.event ≡ true
+      → ((d : ℕ) → is_current (replied duration H) d ≡ true → is_one_of docs d ≡ is_one_of (frames_above (replied duration H) d) f) → AreEnded (replied duration H) (replied duration (e ∷ H)) docs
+  unfolding replied
+  ends-frame duration H e f docs end below d current =
+      let T = replied duration H in
+      let s = step_of duration H e in
+      below d current ∙ sym (ends-one e.event f (frames_above T d) end) ∙ sym (twice (ends (frames_above T d) e.event))
+      ∙ ap (λ b. not (b && not (ends (frames_above T d) e.event))) (sym current)
+      ∙ ap not (sym (laws.current.is_current_older s T d (laws.current.is_current_within T d current).1))
 
   pub ended : (duration : ℕ) (H : History) (e : Timed) (docs : List ℕ) (old new : Queues) → (effects_of (step_of duration H e)).requests ≡ false → (effects_of (step_of duration H e)).settles_prompt ≡ false
       → AreEnded (replied duration H) (replied duration (e ∷ H)) docs → IsPrompts (replied duration H) old

@@ -26,7 +26,7 @@ use Rattle.pe_events.specs.declared.event.EventLife.{EventLife}
 use Rattle.pe_events.specs.declared.event.Outcome.{Outcome}
 use Rattle.pe_rules.specs.History.{RepliedHistory, History, some_if}
 use Rattle.pe_rules.specs.Embedders.{page}
-use Rattle.pe_rules.specs.Current.{is_current, document_in}
+use Rattle.pe_rules.specs.Current.{ends, frames_above, is_current, document_in}
 use Rattle.pe_rules.specs.Activation.{is_one_of}
 use Rattle.pe_rules.specs.Settings.{pair_for}
 use Rattle.pe_rules.specs.PermissionState.{permission_state}
@@ -125,7 +125,7 @@ pub record PromptSteps : Type 0 where
   pub settles : (duration : ℕ) (T : RepliedHistory) (now : ℕ) (queues : Queues) (k : ℕ) (out : Outcome) (life : EventLife) (requests : List DocRef) → IsPrompts T queues
       → option_map (λ (p : Prompt). p.waiting) (queue.prompt_at queues k) ≡ Some requests
       → answer_of duration T now (event.Answered k out life) ≡ answer.Settled (length requests) (state_replied out)
-  -- a request is answered by the state that it finds, and by the pending prompt of its pair
+  -- a request is answered by the state that it finds and by the pending prompt of its pair; where the state is prompt, by what the request is told
   pub requests : (duration : ℕ) (T : RepliedHistory) (queues : Queues) (now frame : ℕ) (name : List ℕ) (document top : ℕ) (pair : Pair) → IsPrompts T queues → IsAsking T frame name document top pair
       → answer_of duration T now (event.Request frame name) ≡ answer_of_request (permission_state T now document pair.0) (length T + 1) (queue.pending_of queues top pair)
   pub asks : (duration : ℕ) (T : RepliedHistory) (queues : Queues) (now frame : ℕ) (name : List ℕ) (document top : ℕ) (pair : Pair) → IsPrompts T queues → IsAsking T frame name document top pair
@@ -145,7 +145,9 @@ pub record PromptSteps : Type 0 where
   -- after an answer
   pub answered : (duration : ℕ) (H : History) (e : Timed) (k : ℕ) (out : Outcome) (life : EventLife) (old new : Queues) → e.event ≡ event.Answered k out life
       → IsPrompts (replied duration H) old → HasSettled old new k → IsPrompts (replied duration (e ∷ H)) new
-  -- after the end of documents, once the requests of each are dropped
+  -- after the end of documents, once the requests of each are dropped; a navigation or a close ends those of the frame and below it
   pub ended : (duration : ℕ) (H : History) (e : Timed) (docs : List ℕ) (old new : Queues) → (effects_of (step_of duration H e)).requests ≡ false → (effects_of (step_of duration H e)).settles_prompt ≡ false
       → AreEnded (replied duration H) (replied duration (e ∷ H)) docs → IsPrompts (replied duration H) old
       → new.given ≡ old.given → ((top : ℕ) → queue.pending new top ≡ left_by_all docs (queue.pending old top)) → IsPrompts (replied duration (e ∷ H)) new
+  pub ends_frame : (duration : ℕ) (H : History) (e : Timed) (f : ℕ) (docs : List ℕ) → IsTrue (ends (f ∷ []) e.event)
+      → ((d : ℕ) → IsTrue (is_current (replied duration H) d) → is_one_of docs d ≡ is_one_of (frames_above (replied duration H) d) f) → AreEnded (replied duration H) (replied duration (e ∷ H)) docs

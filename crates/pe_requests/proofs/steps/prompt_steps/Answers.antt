@@ -3,7 +3,7 @@ use Rattle.pe_requests.proofs.Pairs.{joins, joins-by-request, counted, exceeds, 
 use Rattle.pe_requests.proofs.Reading.{below, below-told, below-answered, asked, settles}
 use Rattle.pe_requests.proofs.Going.{start, quiet, answered}
 use Rattle.pe_requests.proofs.Asking.{stated, told}
-use Rattle.pe_requests.proofs.Leaving.{ended}
+use Rattle.pe_requests.proofs.Leaving.{ended, ends-frame}
 use Rattle.pe_requests.proofs.steps.prompt_steps.Goals as goal
 
 pub returns : goal.returns
@@ -27,4 +27,5 @@ returns c = let laws = c.history_laws.ensures in record {
   told = told laws;
   answered = answered laws;
   ended = ended laws;
+  ends_frame = ends-frame laws;
 }
