@@ -1,0 +1,9 @@
+pub mod Lists
+pub mod Rising
+pub mod Known
+pub mod Faults
+pub mod Pairs
+pub mod Reading
+pub mod Going
+pub mod Leaving
+pub mod Asking
