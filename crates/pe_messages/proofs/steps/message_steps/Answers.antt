@@ -1,0 +1,21 @@
+use Rattle.pe_messages.proofs.Naming.{named}
+use Rattle.pe_messages.proofs.Deliveries.{fault, refused, counted, limit, below, found, answered, handed}
+use Rattle.pe_messages.proofs.Following.{start, quiet, posted, delivered}
+use Rattle.pe_messages.proofs.steps.message_steps.Goals as goal
+
+pub returns : goal.returns
+returns c = let laws = c.history_laws.ensures in record {
+  start = start;
+  fault = fault;
+  refused = refused;
+  counted = counted;
+  limit = limit;
+  below = below laws;
+  found = found;
+  answered = answered;
+  handed = handed;
+  named = named;
+  quiet = quiet laws;
+  posted = posted laws;
+  delivered = delivered laws;
+}
