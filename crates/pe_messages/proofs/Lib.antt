@@ -2,3 +2,4 @@ pub mod Rows
 pub mod Naming
 pub mod Deliveries
 pub mod Following
+pub mod Addressed

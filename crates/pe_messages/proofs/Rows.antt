@@ -16,6 +16,10 @@ pub each-weaker : {A : Type 0} (P Q : A → Type 0) (xs : List A) → ((x : A) �
 each-weaker P Q [] f h = tt
 each-weaker P Q (x ∷ xs) f h = (f x h.0, each-weaker P Q xs f h.1)
 
+pub each-both : {A : Type 0} (P Q : A → Type 0) (xs : List A) → Each P xs → Each Q xs → Each (λ x. P x × Q x) xs
+each-both P Q [] h k = tt
+each-both P Q (x ∷ xs) h k = ((h.0, k.0), each-both P Q xs h.1 k.1)
+
 pub each-filter : {A : Type 0} (P : A → Type 0) (test : A → Bool) (xs : List A) → Each P xs → Each P (filter test xs)
 each-filter P test [] h = tt
 each-filter P test (x ∷ xs) h = by_test (test x) (each-filter P test xs h.1)

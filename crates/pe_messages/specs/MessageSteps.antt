@@ -4,6 +4,7 @@ use Rattle.std.specs.Prelude.{◌≡◌, ℕ, ◌+◌, ◌<◌, Bool, true, fals
 use Rattle.std.specs.Option.{option_or}
 use Rattle.pe_base.specs.declared.limits.TheConstants.{EVENT_LIMIT, MESSAGE_LIMIT}
 use Rattle.pe_arena.specs.declared.handle.DocRef.{DocRef}
+use Rattle.pe_arena.specs.declared.handle.Handle.{Handle}
 use Rattle.pe_features.specs.declared.capability.Capability.{Capability}
 use Rattle.pe_origin.specs.declared.origin.Origin.{Origin}
 use Rattle.pe_delegation.specs.declared.delivery.Delivery.{Delivery}
@@ -15,16 +16,21 @@ use Rattle.pe_events.specs.declared.answer.Answer.TheVariants as answer
 use Rattle.pe_events.specs.declared.cause.Cause.{Cause}
 use Rattle.pe_events.specs.declared.cause.Cause.TheVariants as cause
 use Rattle.pe_events.specs.declared.event.Event.TheVariants as event
-use Rattle.pe_rules.specs.History.{Replied, RepliedHistory, History, some_if, clock}
+use Rattle.pe_rules.specs.History.{Replied, Step, RepliedHistory, History, some_if, clock}
 use Rattle.pe_rules.specs.Numbering.{is_message}
 use Rattle.pe_rules.specs.Embedders.{page_of_frame}
+use Rattle.pe_rules.specs.Current.{document_in}
 use Rattle.pe_rules.specs.Delegation as rules
 use Rattle.pe_rules.specs.Delegation.{message_by, is_message_settled, waiting_messages, hands_over}
 use Rattle.pe_rules.specs.Causes.{names_unknown, names_settled, exceeds_pending, first_some, cause_of}
 use Rattle.pe_rules.specs.Replies.{answer_of, replied, is_regular}
 use Rattle.pe_laws.specs.EffectsLaws.{effects_of}
 use Rattle.pe_laws.specs.PromptsLaws.{step_of}
-use Rattle.pe_messages.specs.Parts.{message_of_row, IsMessages, IsPost, cause_of_fault, AreShown, answer_by_delivery, is_put}
+use Rattle.pe_messages.specs.Parts.{message_of_row, IsMessages, IsPost, AreAddressed, ShowsCurrent, AreShown, cause_of_fault, answer_by_delivery, is_put}
+
+-- a frame that has a handle before has it afterwards
+abbrev pub AreHandlesKept : (ℕ → Option Handle) → (ℕ → Option Handle) → Type 0
+AreHandlesKept before after = (f : ℕ) (h : Handle) → before f ≡ Some h → after f ≡ Some h
 
 -- what holds of messages that stand for steps
 pub record MessageSteps : Type 0 where
@@ -69,3 +75,13 @@ pub record MessageSteps : Type 0 where
   -- after a delivery, whatever came of it
   pub delivered : (duration : ℕ) (H : History) (e : Timed) (m : ℕ) (old new : Posted) → e.event ≡ event.Deliver m
       → IsMessages (replied duration H) old → new.waiting ≡ without m old.waiting → new.given ≡ old.given → IsMessages (step_of duration H e ∷ replied duration H) new
+  -- frames that show each document under the handle of its frame show those to which messages were posted
+  pub shown : (T : RepliedHistory) (handle_of : ℕ → Option Handle) (shown : DocRef → Option Origin) (waiting : List (ℕ × Message)) → ShowsCurrent T handle_of shown → AreAddressed T handle_of waiting → AreShown T shown waiting
+  -- the handles of those documents stay, however many frames have one afterwards: after a step that leaves the messages, after a post to the document of a frame, and after a delivery
+  pub addressed_quiet : (s : Step) (T : RepliedHistory) (before after : ℕ → Option Handle) (posted : Posted) → IsMessages T posted → AreHandlesKept before after
+      → AreAddressed T before posted.waiting → AreAddressed (s ∷ T) after posted.waiting
+  pub addressed_posted : (s : Step) (T : RepliedHistory) (before after : ℕ → Option Handle) (target no : ℕ) (x : Message) (old new : Posted) → IsMessages T old → AreHandlesKept before after
+      → document_in T target ≡ Some x.target.doc → before target ≡ Some x.target.at
+      → AreAddressed T before old.waiting → new.waiting ≡ old.waiting ++ (no, x) ∷ [] → AreAddressed (s ∷ T) after new.waiting
+  pub addressed_delivered : (s : Step) (T : RepliedHistory) (before after : ℕ → Option Handle) (m : ℕ) (old new : Posted) → IsMessages T old → AreHandlesKept before after
+      → AreAddressed T before old.waiting → new.waiting ≡ without m old.waiting → AreAddressed (s ∷ T) after new.waiting

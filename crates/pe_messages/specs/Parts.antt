@@ -4,6 +4,7 @@
 use Rattle.std.specs.Prelude.{◌≡◌, ℕ, Bool, false, not, ◌&&◌, ◌==◌, List, filter, Option, Some, is_some, option_and_then}
 use Rattle.std.specs.Map.{keys_of}
 use Rattle.pe_arena.specs.declared.handle.DocRef.{DocRef}
+use Rattle.pe_arena.specs.declared.handle.Handle.{Handle}
 use Rattle.pe_features.specs.declared.capability.Capability.{Capability}
 use Rattle.pe_features.specs.Capabilities.{capability_named}
 use Rattle.pe_origin.specs.declared.origin.Origin.{Origin}
@@ -19,6 +20,7 @@ use Rattle.pe_events.specs.declared.cause.Cause.{Cause}
 use Rattle.pe_events.specs.declared.cause.Cause.TheVariants as cause
 use Rattle.pe_rules.specs.History.{RepliedHistory, some_if}
 use Rattle.pe_rules.specs.Numbering.{is_message}
+use Rattle.pe_rules.specs.Making.{frame_of}
 use Rattle.pe_rules.specs.Embedders.{page_of_frame}
 use Rattle.pe_rules.specs.Current.{is_current, document_in}
 use Rattle.pe_rules.specs.Origins.{origin_of}
@@ -51,16 +53,26 @@ pub record IsPost (T : RepliedHistory) (sender target : ℕ) (named : Option (Li
   pub origin : option_and_then word_origin named ≡ Some x.origin
   pub delegated : capability_named capability ≡ Some x.capability
 
+-- ---- the documents to which they are posted
+
+-- each waiting message has the handle of the frame of the document to which it was posted
+abbrev pub AreAddressed : RepliedHistory → (ℕ → Option Handle) → List (ℕ × Message) → Type 0
+AreAddressed T handle_of waiting = Each (λ e. handle_of (frame_of T e.1.target.doc) ≡ Some e.1.target.at) waiting
+
+-- of each document, under the handle of its frame, this shows the origin while the document is current, and nothing otherwise
+abbrev pub ShowsCurrent : RepliedHistory → (ℕ → Option Handle) → (DocRef → Option Origin) → Type 0
+ShowsCurrent T handle_of shown = (d : ℕ) (h : Handle) → handle_of (frame_of T d) ≡ Some h → shown (record { at = h; doc = d }) ≡ some_if (is_current T d) (origin_of T d)
+
+-- of each document to which a waiting message was posted this shows the origin while the document is current, and nothing otherwise
+abbrev pub AreShown : RepliedHistory → (DocRef → Option Origin) → List (ℕ × Message) → Type 0
+AreShown T shown waiting = Each (λ e. shown e.1.target ≡ some_if (is_current T e.1.target.doc) (origin_of T e.1.target.doc)) waiting
+
 -- ---- deliveries
 
 -- the cause for which a delivery is refused
 abbrev pub cause_of_fault : DeliverFault → Cause
 cause_of_fault Unknown = cause.Unknown
 cause_of_fault Settled = cause.Settled
-
--- of each document to which a message was posted this shows the origin while the document is current, and nothing afterwards
-abbrev pub AreShown : RepliedHistory → (DocRef → Option Origin) → List (ℕ × Message) → Type 0
-AreShown T shown waiting = Each (λ e. shown e.1.target ≡ some_if (is_current T e.1.target.doc) (origin_of T e.1.target.doc)) waiting
 
 -- the answer to a delivery, by what came of it
 abbrev pub answer_by_delivery : Delivery → Answer

@@ -1,3 +1,4 @@
+use Rattle.pe_messages.proofs.Addressed.{shown, addressed-quiet, addressed-posted, addressed-delivered}
 use Rattle.pe_messages.proofs.Naming.{named}
 use Rattle.pe_messages.proofs.Deliveries.{fault, refused, counted, limit, below, found, answered, handed}
 use Rattle.pe_messages.proofs.Following.{start, quiet, posted, delivered}
@@ -18,4 +19,8 @@ returns c = let laws = c.history_laws.ensures in record {
   quiet = quiet laws;
   posted = posted laws;
   delivered = delivered laws;
+  shown = shown;
+  addressed_quiet = addressed-quiet laws;
+  addressed_posted = addressed-posted laws;
+  addressed_delivered = addressed-delivered laws;
 }
