@@ -1,5 +1,5 @@
 -- What messages that stand for steps say of a delivery, and of the limit of a post.
-use Rattle.std.proofs.Common.{◌≡◌, ℕ, ◌+◌, ◌<◌, Bool, true, false, cond, not, ◌&&◌, ◌||◌, ◌==◌, nat_le, nat_lt, List, [], ◌∷◌, length, Option, Some, None, is_some, is_none, unwrap_or, option_map, if◌then◌else◌, refl, sym, ◌∙◌, ap, arith}
+use Rattle.std.proofs.Common.{◌≡◌, ℕ, ◌+◌, ◌<◌, ◌≤◌, Bool, true, false, cond, not, ◌&&◌, ◌||◌, ◌==◌, nat_le, nat_lt, List, [], ◌∷◌, length, Option, Some, None, is_some, is_none, unwrap_or, option_map, if◌then◌else◌, refl, sym, ◌∙◌, ap, arith}
 use Rattle.std.specs.Option.{option_or}
 use Rattle.pe_base.specs.declared.limits.TheConstants.{EVENT_LIMIT, MESSAGE_LIMIT}
 use Rattle.pe_arena.specs.declared.handle.DocRef.{DocRef}
@@ -167,3 +167,10 @@ handed duration T posted now m d capability shown delivery is frames h =
 module _ (laws : HistoryLaws) where
   pub below : (T : RepliedHistory) (posted : Posted) (k : ℕ) → IsMessages T posted → was_given posted.given k ≡ true → k < length T + 1
   below T posted k is given = let within = laws.numbering.message_within T k (sym (is.given k) ∙ given) in omega (arith, within.1)
+
+  pub beyond : (T : RepliedHistory) (posted : Posted) (m : ℕ) → IsMessages T posted → (1 ≤ m → length T < m) → deliver_fault posted m ≡ Some Unknown
+  beyond T posted m is past = ap (λ b. cond b (cond (is_none (message_of posted.waiting m)) (Some Settled) None) (Some Unknown)) (is.given m ∙ by_message (is_message T m) refl)
+    where
+      by_message : (b : Bool) → is_message T m ≡ b → b ≡ false
+      by_message false at = refl
+      by_message true at = let within = laws.numbering.message_within T m at in let more = past within.0 in absurd (omega (arith, within.1))

@@ -1,6 +1,6 @@
 -- For what delegating messages stand after a step, and what they say of the events that name them.
 -- HTML Standard, "window post message steps", with Capability Delegation in outline.
-use Rattle.std.specs.Prelude.{◌≡◌, ℕ, ◌+◌, ◌<◌, Bool, true, false, nat_le, nat_lt, IsTrue, List, [], ◌∷◌, ◌++◌, length, Option, Some, None, option_map, if◌then◌else◌}
+use Rattle.std.specs.Prelude.{◌≡◌, ℕ, ◌+◌, ◌<◌, ◌≤◌, Bool, true, false, nat_le, nat_lt, IsTrue, List, [], ◌∷◌, ◌++◌, length, Option, Some, None, option_map, if◌then◌else◌}
 use Rattle.std.specs.Option.{option_or}
 use Rattle.pe_base.specs.declared.limits.TheConstants.{EVENT_LIMIT, MESSAGE_LIMIT}
 use Rattle.pe_arena.specs.declared.handle.DocRef.{DocRef}
@@ -51,6 +51,8 @@ pub record MessageSteps : Type 0 where
       → exceeds_pending T now (event.Post sender target named capability) ≡ nat_le MESSAGE_LIMIT (waiting_count page posted.waiting)
   -- the numbers that were given are below the next position
   pub below : (T : RepliedHistory) (posted : Posted) (k : ℕ) → IsMessages T posted → was_given posted.given k ≡ true → k < length T + 1
+  -- so a number that is no position of the history is unknown
+  pub beyond : (T : RepliedHistory) (posted : Posted) (m : ℕ) → IsMessages T posted → (1 ≤ m → length T < m) → deliver_fault posted m ≡ Some Unknown
   -- a waiting message is the history's, and is not settled
   pub found : (T : RepliedHistory) (posted : Posted) (m : ℕ) (x : Message) → IsMessages T posted → message_of posted.waiting m ≡ Some x
       → (rules.message T m ≡ Some (message_of_row x)) × (is_message T m ≡ true) × (is_message_settled T m ≡ false)

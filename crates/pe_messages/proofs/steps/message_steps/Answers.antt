@@ -1,6 +1,6 @@
 use Rattle.pe_messages.proofs.Addressed.{shown, addressed-quiet, addressed-posted, addressed-delivered}
 use Rattle.pe_messages.proofs.Naming.{named}
-use Rattle.pe_messages.proofs.Deliveries.{fault, refused, counted, limit, below, found, answered, handed}
+use Rattle.pe_messages.proofs.Deliveries.{fault, refused, counted, limit, below, beyond, found, answered, handed}
 use Rattle.pe_messages.proofs.Following.{start, quiet, posted, delivered}
 use Rattle.pe_messages.proofs.steps.message_steps.Goals as goal
 
@@ -12,6 +12,7 @@ returns c = let laws = c.history_laws.ensures in record {
   counted = counted;
   limit = limit;
   below = below laws;
+  beyond = beyond laws;
   found = found;
   answered = answered;
   handed = handed;
