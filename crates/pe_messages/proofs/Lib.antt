@@ -1,0 +1,5 @@
+pub mod Rows
+pub mod Naming
+pub mod Deliveries
+pub mod Following
+pub mod Addressed
