@@ -18,3 +18,5 @@ pub mod NoChanges
 pub mod Embedded
 pub mod Navigated
 pub mod Promised
+pub mod Delivered
+pub mod Consumed
