@@ -20,3 +20,4 @@ pub mod Navigated
 pub mod Promised
 pub mod Delivered
 pub mod Consumed
+pub mod Deciding

@@ -11,3 +11,4 @@ pub mod Changing
 pub mod Stepping
 pub mod Embedding
 pub mod Promises
+pub mod Deciding

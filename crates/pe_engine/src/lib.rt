@@ -10,6 +10,7 @@ mod replies;
 mod row;
 mod step;
 mod verbs;
+mod verdict;
 
 pub use engine::Engine;
 pub use replies::Replies;
