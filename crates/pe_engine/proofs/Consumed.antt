@@ -1,6 +1,5 @@
 -- The user activation of a page that a use or a post consumes.
-use Rattle.std.proofs.Common.{◌≡◌, ℕ, ◌≤◌, Bool, true, false, ◌&&◌, ◌==◌, List, [], ◌∷◌, ◌++◌, length, Option, Some, None, unwrap_or, option_map, refl, sym, ◌∙◌, ap, subst, arith, cond, if◌then◌else◌}
-use Rattle.std.proofs.lemmas.Bool.Decides.{nat_tests}
+use Rattle.std.proofs.Common.{◌≡◌, ℕ, ◌≤◌, Bool, true, false, ◌&&◌, ◌==◌, List, [], ◌∷◌, ◌++◌, length, Option, Some, None, unwrap_or, option_map, refl, sym, ◌∙◌, ap, subst, cond, if◌then◌else◌}
 use Rattle.pe_base.specs.declared.input.Stamp.{Stamp}
 use Rattle.pe_base.specs.declared.input.Stamp.TheVariants as stamp
 use Rattle.pe_base.specs.Activation.{is_sticky}
@@ -33,6 +32,7 @@ use Rattle.pe_engine.specs.Replying.{timed}
 use Rattle.pe_engine.proofs.Accepted.{step_of}
 use Rattle.pe_engine.proofs.Activating.{with_stamp, stamp-settled}
 use Rattle.pe_engine.proofs.Handles.{same-frame}
+use Rattle.pe_engine.proofs.InPlace.{turned}
 use Rattle.pe_engine.proofs.Kept.{kept-in-place, kept-silent, document-within, settled-stays, delivered-stays}
 use Rattle.pe_engine.proofs.Look.{node-at, page-at, page-of}
 
@@ -41,9 +41,6 @@ consumed-row : (x : Row) (t : Stamp) → cond (is_sticky t) (with_stamp stamp.Co
 consumed-row x stamp.Never = refl
 consumed-row x stamp.Consumed = refl
 consumed-row x (stamp.At time) = refl
-
-turned : (a b : ℕ) → (a == b) ≡ (b == a)
-turned a b = grind (arith, nat_tests)
 
 -- a step that changes nothing in the row of a document but its stamp, and activates none
 pub record IsConsumingStep (s : Step) : Type 0 where

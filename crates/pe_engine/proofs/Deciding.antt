@@ -57,10 +57,6 @@ state-stored T now x f stored is secure allowed kept = rw (sym is.secure ∙ sec
 
 -- ---- the rules of a call's feature
 
-pub unwanted-is : (b : Bool) → not b ≡ true → b ≡ false
-unwanted-is true h = sym h
-unwanted-is false h = refl
-
 pub wanted-is : (b : Bool) → not b ≡ false → b ≡ true
 wanted-is true h = refl
 wanted-is false h = sym h

@@ -7,6 +7,8 @@ use Rattle.pe_features.specs.declared.call.Call.{Call}
 use Rattle.pe_features.specs.declared.capability.Capability.{Capability}
 use Rattle.pe_features.specs.declared.capability.Capability.TheVariants.{Payment, Fullscreen, DisplayCapture}
 use Rattle.pe_features.specs.Calls.{call_named, gate_of}
+use Rattle.pe_features.specs.Capabilities.{feature_of}
+use Rattle.pe_features.specs.Features.{feature_number}
 use Rattle.pe_events.specs.declared.answer.Answer.TheVariants as answer
 use Rattle.pe_events.specs.declared.event.Event.TheVariants as event
 use Rattle.pe_events.specs.declared.reason.Verdict.TheVariants as verdict
@@ -28,6 +30,7 @@ use Rattle.pe_engine.specs.Tree.{IsNode, IsTree}
 use Rattle.pe_engine.specs.Replying.{timed}
 use Rattle.pe_engine.proofs.Accepted.{step_of}
 use Rattle.pe_engine.proofs.Handles.{same-frame}
+use Rattle.pe_engine.proofs.InPlace.{turned}
 use Rattle.pe_engine.proofs.Kept.{kept-in-place, kept-silent, document-within, settled-stays}
 use Rattle.pe_engine.proofs.Look.{found, node-at}
 
@@ -46,9 +49,6 @@ time-after Fullscreen DisplayCapture time x = refl
 time-after DisplayCapture Payment time x = refl
 time-after DisplayCapture Fullscreen time x = refl
 time-after DisplayCapture DisplayCapture time x = refl
-
-turned : (a b : Capability) → is_same_capability a b ≡ is_same_capability b a
-turned a b = grind (arith, nat_tests)
 
 differs : (a b : ℕ) → (a == b) ≡ false → a ≢ b
 differs a b q = grind (arith, nat_tests)
@@ -176,7 +176,7 @@ module _ (laws : HistoryLaws) where
       s = step_of (timed now (event.UseCall F name)) (Judged (verdict.Allowed via.Delegated))
 
       spent : (c : Capability) → spends (event.UseCall F name) (Judged (verdict.Allowed via.Delegated)) (frame_of T d) c ≡ is_same_capability capability c
-      spent c = let is : (F == frame_of T d) ≡ true = (Decides-eqb F (frame_of T d)).1 (sym framed) in rw (is, named, has) (turned c capability)
+      spent c = let is : (F == frame_of T d) ≡ true = (Decides-eqb F (frame_of T d)).1 (sym framed) in rw (is, named, has) (turned (feature_number (feature_of c)) (feature_number (feature_of capability)))
 
       unspent : (k : ℕ) (c : Capability) → frame_of T k ≢ F → spends (event.UseCall F name) (Judged (verdict.Allowed via.Delegated)) (frame_of T k) c ≡ false
       unspent k c ne = let is : (F == frame_of T k) ≡ false = beside-is F (frame_of T k) (λ q. ne (sym q)) in rw is refl

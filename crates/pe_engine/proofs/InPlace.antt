@@ -38,7 +38,7 @@ second-settled T x s is = record { origin = is.origin; sandboxed = is.sandboxed;
 attributes-settled : (T : RepliedHistory) (x y : Row) → IsSettled T x → IsSettled T (record x { attributes = y.attributes })
 attributes-settled T x y is = record { origin = is.origin; sandboxed = is.sandboxed; secure = is.secure; single = is.single; pair = is.pair; policy = is.policy }
 
-turned : (a b : ℕ) → (a == b) ≡ (b == a)
+pub turned : (a b : ℕ) → (a == b) ≡ (b == a)
 turned a b = grind (arith, nat_tests)
 
 both-true : (b c : Bool) → b ≡ true → c ≡ true → (b && c) ≡ true

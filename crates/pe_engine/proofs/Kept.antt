@@ -32,7 +32,7 @@ use Rattle.pe_engine.proofs.Lists.{each-kept, each-map, each-all, filter-within,
 use Rattle.pe_engine.proofs.TopDocuments.{top-origin-older}
 use Rattle.pe_engine.proofs.Handles.{Grows, grows, path-grows, has-agrees, handle-last, handle-beside, handle-nothing, same-frame}
 
-flip : (b : Bool) → not b ≡ true → b ≡ false
+pub flip : (b : Bool) → not b ≡ true → b ≡ false
 flip true h = sym h
 flip false h = refl
 
