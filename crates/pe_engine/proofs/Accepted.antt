@@ -44,6 +44,8 @@ pub record IsSilent (e : Event) (item : StepAnswer) : Type 0 where
   pub activates : (effects e item).activates ≡ false
   pub consumes : (effects e item).consumes ≡ false
   pub acts : (effects e item).acts_on_history ≡ false
+  pub delivers : (effects e item).delivers ≡ false
+  pub spends : (effects e item).spends ≡ false
   pub gives : (effects e item).gives_attribute ≡ false
 
 -- ---- what is noted
@@ -199,4 +201,4 @@ module _ (laws : EngineLaws) where
       rw (noted.rest.noted.made, noted.frames_are) (by_item item (subst (IsSilent x.event) (sym is) silent)))
     where
       by_item : (item : StepAnswer) → IsSilent x.event item → IsTree (step_of x item ∷ replied e.duration H) (e.made ++ made.Nothing ∷ []) e.frames
-      by_item item quiet = kept-silent laws.history (step_of x item) (replied e.duration H) e.made made.Nothing e.frames refl quiet.frames quiet.documents quiet.ends quiet.activates quiet.consumes quiet.acts quiet.gives stands.steps.tree
+      by_item item quiet = kept-silent laws.history (step_of x item) (replied e.duration H) e.made made.Nothing e.frames refl quiet.frames quiet.documents quiet.ends quiet.activates quiet.consumes quiet.acts quiet.delivers quiet.spends quiet.gives stands.steps.tree

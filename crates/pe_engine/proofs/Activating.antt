@@ -32,7 +32,7 @@ use Rattle.pe_engine.specs.Tree.{IsNode, IsTree}
 use Rattle.pe_engine.specs.Replying.{timed}
 use Rattle.pe_engine.proofs.Accepted.{step_of}
 use Rattle.pe_engine.proofs.Handles.{has-agrees}
-use Rattle.pe_engine.proofs.Kept.{kept-in-place, document-within, settled-stays}
+use Rattle.pe_engine.proofs.Kept.{kept-in-place, document-within, settled-stays, delivered-stays}
 use Rattle.pe_engine.proofs.Lists.{each-all, each-listed, map-filter}
 use Rattle.pe_engine.proofs.Look.{node-at}
 
@@ -44,7 +44,7 @@ same_origins x y = is_same_origin x.origin y.origin
 abbrev pub with_stamp : Stamp → Row → Row
 with_stamp s x = record x { stamp = s }
 
-stamp-settled : (T : RepliedHistory) (x : Row) (s : Stamp) → IsSettled T x → IsSettled T (with_stamp s x)
+pub stamp-settled : (T : RepliedHistory) (x : Row) (s : Stamp) → IsSettled T x → IsSettled T (with_stamp s x)
 stamp-settled T x s is = record { origin = is.origin; sandboxed = is.sandboxed; secure = is.secure; single = is.single; pair = is.pair; policy = is.policy }
 
 same-tests : (a b c x y z : Bool) → a ≡ x → b ≡ y → c ≡ z → (a || b && c) ≡ (x || y && z)
@@ -154,6 +154,7 @@ module _ (laws : HistoryLaws) where
             settled = settled-stays laws s T (activated e) (within e node) (stamp-settled T e.doc (stamp.At now) node.row.settled);
             stamp = sym (after e true is);
             second = node.row.second ∙ sym (laws.effects.second_stamp_stays s T e.doc.doc refl);
+            delivered = delivered-stays laws s T e.doc.doc e.doc.delivered refl refl node.row.delivered;
             attributes = node.row.attributes ∙ ap kept_attributes (sym (laws.effects.attributes_stay s T e.frame refl));
           },
         )
@@ -163,6 +164,7 @@ module _ (laws : HistoryLaws) where
             settled = settled-stays laws s T e.doc (within e node) node.row.settled;
             stamp = node.row.stamp ∙ sym (after e false is);
             second = node.row.second ∙ sym (laws.effects.second_stamp_stays s T e.doc.doc refl);
+            delivered = delivered-stays laws s T e.doc.doc e.doc.delivered refl refl node.row.delivered;
             attributes = node.row.attributes ∙ ap kept_attributes (sym (laws.effects.attributes_stay s T e.frame refl));
           },
         )

@@ -1,5 +1,5 @@
 -- A frame that is embedded.
-use Rattle.std.proofs.Common.{◌≡◌, ◌≢◌, ℕ, suc, ◌+◌, ◌≤◌, Bool, true, false, ◌==◌, codes, List, [], ◌∷◌, ◌++◌, map, length, Option, Some, None, is_some, unwrap_or, option_map, refl, sym, ◌∙◌, ap, arith}
+use Rattle.std.proofs.Common.{◌≡◌, ◌≢◌, ℕ, suc, ◌+◌, ◌≤◌, Bool, true, false, ◌==◌, codes, List, [], ◌∷◌, ◌++◌, map, length, Option, Some, None, is_some, unwrap_or, option_map, refl, sym, ◌∙◌, ap, subst, arith}
 use Rattle.std.proofs.lemmas.Bool.Decides.{Decides-eqb, nat_tests}
 use Rattle.std.proofs.lemmas.List.{map-append}
 use Rattle.pe_arena.specs.declared.handle.Handle.{Handle}
@@ -30,7 +30,7 @@ use Rattle.pe_engine.specs.declared.row.Row.{Row}
 use Rattle.pe_engine.specs.declared.engine.Made.{Made}
 use Rattle.pe_engine.specs.declared.engine.Made.TheVariants as made
 use Rattle.pe_engine.specs.Objects.{handle_at}
-use Rattle.pe_engine.specs.Rows.{IsRow, IsSettled, kept_attributes}
+use Rattle.pe_engine.specs.Rows.{IsRow, IsSettled, kept_attributes, AreDelivered}
 use Rattle.pe_engine.specs.Laws.{EngineLaws}
 use Rattle.pe_engine.specs.Making.{IsChildRow}
 use Rattle.pe_engine.specs.Tree.{IsNode}
@@ -39,7 +39,7 @@ use Rattle.pe_engine.specs.StandsFor.{EngineValue, StandsFor}
 use Rattle.pe_engine.specs.Replying.{timed, IsAcceptance}
 use Rattle.pe_engine.proofs.Accepted.{step_of, accept}
 use Rattle.pe_engine.proofs.Handles.{handle-last, grows, path-grows}
-use Rattle.pe_engine.proofs.Kept.{kept-made, row-stays, document-within}
+use Rattle.pe_engine.proofs.Kept.{kept-made, row-stays, document-within, delivered-new}
 use Rattle.pe_engine.proofs.Look.{node-at, last-of}
 use Rattle.pe_engine.proofs.NewRows.{settled-child}
 
@@ -162,13 +162,14 @@ module _ (engine_laws : EngineLaws) where
       older z node = (laws.numbering.frame_within T z.frame (stands.steps.tree.frames z.frame ∙ ap is_some node.handle)).1
 
       others : (item : StepAnswer) (z : Entry Row) → IsNode T e.made z → IsRow (step item ∷ T) z.frame z.doc
-      others item z node = row-stays laws (step item) T z.frame z.doc (document-within laws T z.frame z.doc.doc node.document) refl refl refl (laws.attributes.attributes_stay (step item) T z.frame (beside z.frame (older z node))) node.row
+      others item z node = row-stays laws (step item) T z.frame z.doc (document-within laws T z.frame z.doc.doc node.document) refl refl refl refl refl (laws.attributes.attributes_stay (step item) T z.frame (beside z.frame (older z node))) node.row
 
       new : (item : StepAnswer) → IsRow (step item ∷ T) k (record x { attributes = a })
       new item = record {
         settled = settled-with item;
         stamp = row.new.stamp ∙ sym (laws.activation.stamp_newest (step item) T) ∙ ap (stamp_of (step item ∷ T)) (sym (row.new.doc ∙ number-is));
         second = row.new.second ∙ sym (laws.history_activation.second_stamp_newest (step item) T) ∙ ap (second_stamp_of (step item ∷ T)) (sym (row.new.doc ∙ number-is));
+        delivered = subst (λ d. AreDelivered (step item ∷ T) d x.delivered) (sym (row.new.doc ∙ number-is)) (delivered-new laws (step item) T x.delivered row.new.delivered);
         attributes = given ∙ ap kept_attributes (sym (attributes-given now parent src pl allow sandbox fullscreen srcdoc header item T));
       }
 

@@ -28,7 +28,7 @@ use Rattle.pe_engine.specs.Giving.{attribute_given}
 use Rattle.pe_engine.specs.Replying.{timed}
 use Rattle.pe_engine.proofs.Accepted.{step_of}
 use Rattle.pe_engine.proofs.Handles.{same-frame}
-use Rattle.pe_engine.proofs.Kept.{kept-in-place, document-within, row-stays, settled-stays}
+use Rattle.pe_engine.proofs.Kept.{kept-in-place, document-within, row-stays, settled-stays, delivered-stays}
 use Rattle.pe_engine.proofs.Look.{node-at, page-at, page-of}
 
 -- a row whose second stamp, or whose attributes, are other ones is settled as before
@@ -38,7 +38,7 @@ second-settled T x s is = record { origin = is.origin; sandboxed = is.sandboxed;
 attributes-settled : (T : RepliedHistory) (x y : Row) → IsSettled T x → IsSettled T (record x { attributes = y.attributes })
 attributes-settled T x y is = record { origin = is.origin; sandboxed = is.sandboxed; secure = is.secure; single = is.single; pair = is.pair; policy = is.policy }
 
-turned : (a b : ℕ) → (a == b) ≡ (b == a)
+pub turned : (a b : ℕ) → (a == b) ≡ (b == a)
 turned a b = grind (arith, nat_tests)
 
 both-true : (b c : Bool) → b ≡ true → c ≡ true → (b && c) ≡ true
@@ -95,6 +95,7 @@ module _ (laws : HistoryLaws) where
           settled = settled-stays laws s T (consumed e) (within e node) (second-settled T e.doc e.doc.stamp node.row.settled);
           stamp = node.row.stamp ∙ sym (laws.effects.stamp_of_stays s T e.doc.doc refl refl);
           second = node.row.stamp ∙ sym (after e true node is);
+          delivered = delivered-stays laws s T e.doc.doc e.doc.delivered refl refl node.row.delivered;
           attributes = node.row.attributes ∙ ap kept_attributes (sym (laws.effects.attributes_stay s T e.frame refl));
         },
       )
@@ -104,6 +105,7 @@ module _ (laws : HistoryLaws) where
           settled = settled-stays laws s T e.doc (within e node) node.row.settled;
           stamp = node.row.stamp ∙ sym (laws.effects.stamp_of_stays s T e.doc.doc refl refl);
           second = node.row.second ∙ sym (after e false node is);
+          delivered = delivered-stays laws s T e.doc.doc e.doc.delivered refl refl node.row.delivered;
           attributes = node.row.attributes ∙ ap kept_attributes (sym (laws.effects.attributes_stay s T e.frame refl));
         },
       )
@@ -180,6 +182,7 @@ module _ (laws : HistoryLaws) where
         settled = settled-stays laws s T given within-x (attributes-settled T x.doc given row-x.settled);
         stamp = row-x.stamp ∙ sym (laws.effects.stamp_of_stays s T x.doc.doc refl refl);
         second = row-x.second ∙ sym (laws.effects.second_stamp_stays s T x.doc.doc refl);
+        delivered = delivered-stays laws s T x.doc.doc x.doc.delivered refl refl row-x.delivered;
         attributes = ap (with_attribute (attribute_given named value)) row-x.attributes ∙ attributes-after now F named value item T;
       }
 
@@ -190,7 +193,7 @@ module _ (laws : HistoryLaws) where
       row-of e node true is =
           let same : e.frame ≡ F = (Decides-eqb e.frame F).0 is in
           (same-doc e node same, subst (λ f. IsRow (s ∷ T) f given) (sym same) row-given)
-      row-of e node false is = (refl, row-stays laws s T e.frame e.doc (document-within laws T e.frame e.doc.doc node.document) refl refl refl (laws.attributes.attributes_stay s T e.frame (beside e.frame is)) node.row)
+      row-of e node false is = (refl, row-stays laws s T e.frame e.doc (document-within laws T e.frame e.doc.doc node.document) refl refl refl refl refl (laws.attributes.attributes_stay s T e.frame (beside e.frame is)) node.row)
 
       rows : (e : Entry Row) → IsNode T ms e → ((change e).doc ≡ e.doc.doc) × IsRow (s ∷ T) e.frame (change e)
       rows e node = rw (same-frame ms st.apart e.frame F e.handle h node.handle at) (row-of e node (e.frame == F) refl)

@@ -7,6 +7,8 @@ use Rattle.std.proofs.lemmas.Bool.Decides.{Decides-eqb, nat_tests}
 use Rattle.pe_arena.specs.declared.handle.Handle.{Handle}
 use Rattle.pe_frames.specs.Forest.{Entry, Forest, path, same_handle, is_under, with_document, mark_of, Gives, opened}
 use Rattle.pe_frames.specs.Order.{closed, navigated}
+use Rattle.pe_features.specs.declared.capability.Capability.{Capability}
+use Rattle.pe_features.specs.declared.capability.Capability.TheVariants.{Payment, Fullscreen, DisplayCapture}
 use Rattle.pe_store.specs.declared.key.Key.TheVariants as key
 use Rattle.pe_events.specs.declared.event.Event.TheVariants as event
 use Rattle.pe_rules.specs.History.{Step, RepliedHistory, some_if}
@@ -18,18 +20,19 @@ use Rattle.pe_laws.specs.HistoryLaws.{HistoryLaws}
 use Rattle.pe_laws.specs.CurrentLaws.{left_in}
 use Rattle.pe_laws.specs.Effects.{effects}
 use Rattle.pe_laws.specs.EffectsLaws.{effects_of}
+use Rattle.pe_engine.specs.declared.row.Delivered.{Delivered}
 use Rattle.pe_engine.specs.declared.row.Row.{Row}
 use Rattle.pe_engine.specs.declared.engine.Made.{Made}
 use Rattle.pe_engine.specs.declared.engine.Made.TheVariants as made
 use Rattle.pe_engine.specs.Objects.{handle_in, handle_at, Apart}
-use Rattle.pe_engine.specs.Rows.{top_origin, IsRow, IsSettled, kept_attributes}
+use Rattle.pe_engine.specs.Rows.{top_origin, IsRow, IsSettled, kept_attributes, no_deliveries, delivery_time, AreDelivered}
 use Rattle.pe_laws.specs.StatusesLaws.{Each}
 use Rattle.pe_engine.specs.Tree.{IsNode, IsTree}
 use Rattle.pe_engine.proofs.Lists.{each-kept, each-map, each-all, filter-within, filter-same, map-filter, filter-all, map-left, each-listed}
 use Rattle.pe_engine.proofs.TopDocuments.{top-origin-older}
 use Rattle.pe_engine.proofs.Handles.{Grows, grows, path-grows, has-agrees, handle-last, handle-beside, handle-nothing, same-frame}
 
-flip : (b : Bool) → not b ≡ true → b ≡ false
+pub flip : (b : Bool) → not b ≡ true → b ≡ false
 flip true h = sym h
 flip false h = refl
 
@@ -57,14 +60,29 @@ module _ (laws : HistoryLaws) where
     };
   }
 
-  -- a step that neither activates, consumes, nor gives the frame an attribute leaves the row
+  -- a step that neither delivers nor spends leaves the deliveries
+  pub delivered-stays : (s : Step) (T : RepliedHistory) (d : ℕ) (x : Delivered) → (effects_of s).delivers ≡ false → (effects_of s).spends ≡ false → AreDelivered T d x → AreDelivered (s ∷ T) d x
+  delivered-stays s T d x undelivered unspent is = λ c. is c ∙ sym (laws.delegation.delegated_stays s T d c undelivered unspent)
+
+  -- a new document has none
+  pub delivered-new : (s : Step) (T : RepliedHistory) (x : Delivered) → x ≡ no_deliveries → AreDelivered (s ∷ T) (suc (length T)) x
+  delivered-new s T x none = λ c. ap (λ (y : Delivered). delivery_time y c) none ∙ nothing c ∙ sym (laws.delegation.delegated_newest s T c)
+    where
+      nothing : (c : Capability) → delivery_time no_deliveries c ≡ None
+      nothing Payment = refl
+      nothing Fullscreen = refl
+      nothing DisplayCapture = refl
+
+  -- a step that neither activates, consumes, acts on the history, delivers, spends, nor gives the frame an attribute leaves the row
   pub row-stays : (s : Step) (T : RepliedHistory) (f : ℕ) (x : Row) → x.doc ≤ length T
-      → (effects_of s).activates ≡ false → (effects_of s).consumes ≡ false → (effects_of s).acts_on_history ≡ false → attributes_of (s ∷ T) f ≡ attributes_of T f
+      → (effects_of s).activates ≡ false → (effects_of s).consumes ≡ false → (effects_of s).acts_on_history ≡ false
+      → (effects_of s).delivers ≡ false → (effects_of s).spends ≡ false → attributes_of (s ∷ T) f ≡ attributes_of T f
       → IsRow T f x → IsRow (s ∷ T) f x
-  row-stays s T f x le quiet unconsumed unacted given is = record {
+  row-stays s T f x le quiet unconsumed unacted undelivered unspent given is = record {
     settled = settled-stays s T x le is.settled;
     stamp = is.stamp ∙ sym (laws.effects.stamp_of_stays s T x.doc quiet unconsumed);
     second = is.second ∙ sym (laws.effects.second_stamp_stays s T x.doc unacted);
+    delivered = delivered-stays s T x.doc x.delivered undelivered unspent is.delivered;
     attributes = is.attributes ∙ ap kept_attributes (sym given);
   }
 
@@ -161,11 +179,12 @@ module _ (laws : HistoryLaws) where
   -- an event that changes no document
   pub kept-silent : (s : Step) (T : RepliedHistory) (ms : List Made) (m : Made) (v : Forest Row) → handle_in m ≡ None
       → (effects_of s).makes_frame ≡ false → (effects_of s).makes_document ≡ false → (effects_of s).ends_documents ≡ false
-      → (effects_of s).activates ≡ false → (effects_of s).consumes ≡ false → (effects_of s).acts_on_history ≡ false → (effects_of s).gives_attribute ≡ false
+      → (effects_of s).activates ≡ false → (effects_of s).consumes ≡ false → (effects_of s).acts_on_history ≡ false
+      → (effects_of s).delivers ≡ false → (effects_of s).spends ≡ false → (effects_of s).gives_attribute ≡ false
       → IsTree T ms v → IsTree (s ∷ T) (ms ++ m ∷ []) v
-  kept-silent s T ms m v nothing still made_none ended_none quiet unconsumed unacted ungiven st =
+  kept-silent s T ms m v nothing still made_none ended_none quiet unconsumed unacted undelivered unspent ungiven st =
       kept-in-place s T ms m v v (λ e. e.doc) nothing still made_none ended_none
-      (λ e node. (refl, row-stays s T e.frame e.doc (document-within T e.frame e.doc.doc node.document) quiet unconsumed unacted (laws.effects.attributes_stay s T e.frame ungiven) node.row))
+      (λ e node. (refl, row-stays s T e.frame e.doc (document-within T e.frame e.doc.doc node.document) quiet unconsumed unacted undelivered unspent (laws.effects.attributes_stay s T e.frame ungiven) node.row))
       (sym (unchanged v.entries)) refl st
     where
       unchanged : (es : List (Entry Row)) → map {A = Entry Row} (λ e. record e { doc = e.doc }) es ≡ es
@@ -208,7 +227,7 @@ module _ (laws : HistoryLaws) where
 
       stays : (e : Entry Row) → IsNode T ms e → IsRow (s ∷ T) e.frame e.doc
       stays e node = row-stays s T e.frame e.doc (document-within T e.frame e.doc.doc node.document) (ap (λ x. (effects x s.item).activates) closes) (ap (λ x. (effects x s.item).consumes) closes)
-          (ap (λ x. (effects x s.item).acts_on_history) closes) (laws.effects.attributes_stay s T e.frame (ap (λ x. (effects x s.item).gives_attribute) closes)) node.row
+          (ap (λ x. (effects x s.item).acts_on_history) closes) (ap (λ x. (effects x s.item).delivers) closes) (ap (λ x. (effects x s.item).spends) closes) (laws.effects.attributes_stay s T e.frame (ap (λ x. (effects x s.item).gives_attribute) closes)) node.row
 
   -- ---- a new frame
 
@@ -377,7 +396,7 @@ module _ (laws : HistoryLaws) where
 
       stays : (e : Entry Row) → IsNode T ms e → IsRow (s ∷ T) e.frame e.doc
       stays e node = row-stays s T e.frame e.doc (document-within T e.frame e.doc.doc node.document) (ap (λ x. (effects x s.item).activates) navigates) (ap (λ x. (effects x s.item).consumes) navigates)
-          (ap (λ x. (effects x s.item).acts_on_history) navigates) (laws.effects.attributes_stay s T e.frame (ap (λ x. (effects x s.item).gives_attribute) navigates)) node.row
+          (ap (λ x. (effects x s.item).acts_on_history) navigates) (ap (λ x. (effects x s.item).delivers) navigates) (ap (λ x. (effects x s.item).spends) navigates) (laws.effects.attributes_stay s T e.frame (ap (λ x. (effects x s.item).gives_attribute) navigates)) node.row
 
       after : (e : Entry Row) → IsNode T ms e → stay e ≡ true → Left e
       after e node keep = (elim (same_handle e.handle h) as (λ b. same_handle e.handle h ≡ b → (b || not (is_under h e)) ≡ true → IsNode (s ∷ T) ns (record e { doc = cond b x e.doc })) [

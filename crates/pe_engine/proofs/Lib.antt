@@ -22,3 +22,6 @@ pub mod Governing
 pub mod Passed
 pub mod Gone
 pub mod Ended
+pub mod Delivered
+pub mod Consumed
+pub mod Deciding

@@ -1,5 +1,5 @@
 -- A frame that is navigated.
-use Rattle.std.proofs.Common.{◌≡◌, ℕ, suc, ◌+◌, Bool, true, false, not, ◌||◌, List, [], ◌∷◌, ◌++◌, map, length, Option, Some, None, is_some, unwrap_or, option_map, option_and_then, refl, sym, ◌∙◌, ap, arith, cond, true≢false}
+use Rattle.std.proofs.Common.{◌≡◌, ℕ, suc, ◌+◌, Bool, true, false, not, ◌||◌, List, [], ◌∷◌, ◌++◌, map, length, Option, Some, None, is_some, unwrap_or, option_map, option_and_then, refl, sym, ◌∙◌, ap, subst, arith, cond, true≢false}
 use Rattle.std.specs.Prelude.{filter, IfOk, Result, Ok, Err}
 use Rattle.pe_arena.specs.declared.handle.Handle.{Handle}
 use Rattle.pe_frames.specs.declared.node.Node.{Node}
@@ -26,14 +26,14 @@ use Rattle.pe_engine.specs.declared.row.Row.{Row}
 use Rattle.pe_engine.specs.declared.engine.Made.TheVariants as made
 use Rattle.pe_engine.specs.Causes.{other_cause}
 use Rattle.pe_engine.specs.Objects.{handle_at}
-use Rattle.pe_engine.specs.Rows.{IsRow, IsShown, IsSettled, IsEmbedder, kept_attributes}
+use Rattle.pe_engine.specs.Rows.{IsRow, IsShown, IsSettled, IsEmbedder, kept_attributes, AreDelivered}
 use Rattle.pe_engine.specs.Making.{IsNew, IsTopRow, IsChildRow}
 use Rattle.pe_engine.specs.Tree.{IsNode, IsTree}
 use Rattle.pe_engine.specs.StandsFor.{EngineValue, StandsFor}
 use Rattle.pe_engine.specs.Replying.{timed}
 use Rattle.pe_engine.proofs.Accepted.{step_of}
 use Rattle.pe_engine.proofs.CommonCauses.{shown-at}
-use Rattle.pe_engine.proofs.Kept.{kept-navigation, document-within}
+use Rattle.pe_engine.proofs.Kept.{kept-navigation, document-within, delivered-new}
 use Rattle.pe_engine.proofs.Look.{node-at, last-of, live-at, IsAbove, above-at}
 use Rattle.pe_engine.proofs.NewRows.{settled-top, settled-child}
 
@@ -189,6 +189,7 @@ module _ (laws : HistoryLaws) where
         settled = record { origin = (settled item).origin; sandboxed = (settled item).sandboxed; secure = (settled item).secure; single = (settled item).single; pair = (settled item).pair; policy = (settled item).policy };
         stamp = fresh.stamp ∙ sym (laws.activation.stamp_newest (step item) T) ∙ ap (stamp_of (step item ∷ T)) (sym (fresh.doc ∙ number-is));
         second = fresh.second ∙ sym (laws.history_activation.second_stamp_newest (step item) T) ∙ ap (second_stamp_of (step item ∷ T)) (sym (fresh.doc ∙ number-is));
+        delivered = subst (λ d. AreDelivered (step item ∷ T) d x.delivered) (sym (fresh.doc ∙ number-is)) (delivered-new laws (step item) T x.delivered fresh.delivered);
         attributes = attributes-are ∙ ap kept_attributes (sym (laws.effects.attributes_stay (step item) T f refl));
       }
 

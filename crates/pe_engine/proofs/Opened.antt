@@ -1,5 +1,5 @@
 -- A page that is opened.
-use Rattle.std.proofs.Common.{◌≡◌, ℕ, suc, ◌+◌, false, List, [], ◌∷◌, ◌++◌, map, length, Option, Some, None, unwrap_or, refl, sym, ◌∙◌, ap, arith}
+use Rattle.std.proofs.Common.{◌≡◌, ℕ, suc, ◌+◌, false, List, [], ◌∷◌, ◌++◌, map, length, Option, Some, None, unwrap_or, refl, sym, ◌∙◌, ap, subst, arith}
 use Rattle.pe_frames.specs.Forest.{Entry}
 use Rattle.pe_origin.specs.declared.place.Place.{Place}
 use Rattle.pe_origin.specs.Places.{place_at}
@@ -20,7 +20,7 @@ use Rattle.pe_laws.specs.HistoryLaws.{HistoryLaws}
 use Rattle.pe_engine.specs.declared.row.Row.{Row}
 use Rattle.pe_engine.specs.declared.engine.Made.TheVariants as made
 use Rattle.pe_engine.specs.Objects.{handle_at}
-use Rattle.pe_engine.specs.Rows.{IsRow, IsSettled, kept_attributes}
+use Rattle.pe_engine.specs.Rows.{IsRow, IsSettled, kept_attributes, AreDelivered}
 use Rattle.pe_engine.specs.Laws.{EngineLaws}
 use Rattle.pe_engine.specs.Making.{IsTopRow}
 use Rattle.pe_engine.specs.Tree.{IsNode}
@@ -29,7 +29,7 @@ use Rattle.pe_engine.specs.StandsFor.{EngineValue, StandsFor}
 use Rattle.pe_engine.specs.Replying.{timed, IsAcceptance}
 use Rattle.pe_engine.proofs.Accepted.{step_of, accept}
 use Rattle.pe_engine.proofs.Handles.{handle-last}
-use Rattle.pe_engine.proofs.Kept.{kept-made, row-stays, document-within}
+use Rattle.pe_engine.proofs.Kept.{kept-made, row-stays, document-within, delivered-new}
 use Rattle.pe_engine.proofs.NewRows.{settled-top, chain-top}
 
 -- the place of a URL
@@ -95,7 +95,7 @@ module _ (engine_laws : EngineLaws) where
       settled item = settled-top laws (step item) T (page_making url header T) number place x (made-page url header T) refl number-is (place-is url place named) row
 
       others : (item : StepAnswer) (y : Entry Row) → IsNode T e.made y → IsRow (step item ∷ T) y.frame y.doc
-      others item y node = row-stays laws (step item) T y.frame y.doc (document-within laws T y.frame y.doc.doc node.document) refl refl refl (laws.effects.attributes_stay (step item) T y.frame refl) node.row
+      others item y node = row-stays laws (step item) T y.frame y.doc (document-within laws T y.frame y.doc.doc node.document) refl refl refl refl refl (laws.effects.attributes_stay (step item) T y.frame refl) node.row
 
       bare : (item : StepAnswer) → attributes_of (step item ∷ T) k ≡ no_attributes
       bare item = laws.effects.attributes_stay (step item) T k refl ∙ no-attributes T k (λ n. laws.attributes.attribute_beyond e.duration H k n stands.regular (omega arith))
@@ -105,6 +105,7 @@ module _ (engine_laws : EngineLaws) where
         settled = settled item;
         stamp = row.new.stamp ∙ sym (laws.activation.stamp_newest (step item) T) ∙ ap (stamp_of (step item ∷ T)) (sym (row.new.doc ∙ number-is));
         second = row.new.second ∙ sym (laws.history_activation.second_stamp_newest (step item) T) ∙ ap (second_stamp_of (step item ∷ T)) (sym (row.new.doc ∙ number-is));
+        delivered = subst (λ d. AreDelivered (step item ∷ T) d x.delivered) (sym (row.new.doc ∙ number-is)) (delivered-new laws (step item) T x.delivered row.new.delivered);
         attributes = row.new.attributes ∙ ap kept_attributes (sym (bare item));
       }
 

@@ -167,7 +167,7 @@ attribute-refused old H e name value refusal.Memory gives first = tt
 
 pub silent-history : (duration : ℕ) (T : RepliedHistory) (now f : ℕ) → answer_of duration T now (event.History f) ≡ answer.Denied reason.NoHistory → IsSilent (event.History f) (step_answer duration T now (event.History f))
 silent-history duration T now f is =
-    subst (λ a. IsSilent (event.History f) (Replied a)) (sym is) (record { frames = refl; documents = refl; ends = refl; activates = refl; consumes = refl; acts = refl; gives = refl })
+    subst (λ a. IsSilent (event.History f) (Replied a)) (sym is) (record { frames = refl; documents = refl; ends = refl; activates = refl; consumes = refl; acts = refl; delivers = refl; spends = refl; gives = refl })
 
 -- ---- words
 

@@ -13,3 +13,4 @@ pub mod Embedding
 pub mod Promises
 pub mod Laws
 pub mod Leaving
+pub mod Deciding

@@ -18,7 +18,7 @@ use Rattle.pe_store.specs.declared.key.Key.TheVariants as key
 use Rattle.pe_rules.specs.Origins.{sandboxes_origin, origin_of_place, is_blank_kind, declared_by_place}
 use Rattle.pe_engine.specs.declared.row.Attributes.{Attributes}
 use Rattle.pe_engine.specs.declared.row.Row.{Row}
-use Rattle.pe_engine.specs.Rows.{no_kept_attributes}
+use Rattle.pe_engine.specs.Rows.{no_kept_attributes, no_deliveries}
 
 -- the sandbox attribute stands without `allow-same-origin`
 abbrev pub sandboxes : Attributes → Bool
@@ -55,11 +55,12 @@ abbrev pub IsContainedBy : ChainDocument → Attributes → Row → Type 0
 IsContainedBy link attributes embedder =
     (feature : Feature) → link.container feature ≡ container_policy attributes.allow attributes.fullscreen embedder.origin (kept_declared attributes embedder.sandboxed embedder.origin) feature
 
--- the row is new: of this number, never activated, and with no attributes yet
+-- the row is new: of this number, never activated, with no capability delivered, and with no attributes yet
 pub record IsNew (number : ℕ) (x : Row) : Type 0 where
   pub doc : x.doc ≡ number
   pub stamp : x.stamp ≡ Never
   pub second : x.second ≡ Never
+  pub delivered : x.delivered ≡ no_deliveries
   pub attributes : x.attributes ≡ no_kept_attributes
 
 -- the row of a top document

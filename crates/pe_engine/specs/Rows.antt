@@ -2,6 +2,8 @@
 -- This project's own: each field is the value that the definitions give.
 use Rattle.std.specs.Prelude.{◌≡◌, ℕ, Bool, false, not, ◌||◌, List, ◌∷◌, Option, Some, None, is_some, option_map}
 use Rattle.pe_features.specs.declared.feature.Feature.{Feature}
+use Rattle.pe_features.specs.declared.capability.Capability.{Capability}
+use Rattle.pe_features.specs.declared.capability.Capability.TheVariants.{Payment, Fullscreen, DisplayCapture}
 use Rattle.pe_policy.specs.Links.{ChainDocument, end_of_chain}
 use Rattle.pe_policy.specs.PolicyValue.{PolicyValue, IsPolicyOf, row_of}
 use Rattle.pe_origin.specs.declared.origin.Origin.{Origin}
@@ -16,7 +18,9 @@ use Rattle.pe_rules.specs.Current.{document_in}
 use Rattle.pe_rules.specs.Denials.{chain_document, chain_documents}
 use Rattle.pe_rules.specs.Activation.{stamp_of}
 use Rattle.pe_rules.specs.HistoryActivation.{second_stamp_of}
+use Rattle.pe_laws.specs.DelegationLaws.{delegated_at}
 use Rattle.pe_engine.specs.declared.row.Attributes.{Attributes}
+use Rattle.pe_engine.specs.declared.row.Delivered.{Delivered}
 use Rattle.pe_engine.specs.declared.row.Row.{Row}
 
 -- attributes as they are kept: of `src` what its URL names
@@ -26,6 +30,26 @@ kept_attributes a = record { src = option_map place_or_none a.src; srcdoc = a.sr
 -- no attributes
 abbrev pub no_kept_attributes : Attributes
 no_kept_attributes = record { src = None; srcdoc = false; allow = None; sandbox = None; fullscreen = false }
+
+-- no capability was delivered
+abbrev pub no_deliveries : Delivered
+no_deliveries = record { payment = None; fullscreen = None; display_capture = None }
+
+-- the time that is kept of a capability
+abbrev pub delivery_time : Delivered → Capability → Option ℕ
+delivery_time delivered Payment = delivered.payment
+delivery_time delivered Fullscreen = delivered.fullscreen
+delivery_time delivered DisplayCapture = delivered.display_capture
+
+-- the deliveries, once this time is kept of the capability, or none
+abbrev pub with_delivery : Capability → Option ℕ → Delivered → Delivered
+with_delivery Payment time delivered = record delivered { payment = time }
+with_delivery Fullscreen time delivered = record delivered { fullscreen = time }
+with_delivery DisplayCapture time delivered = record delivered { display_capture = time }
+
+-- of each capability the time of the last delivery to document d that was not spent since is kept
+abbrev pub AreDelivered : RepliedHistory → ℕ → Delivered → Type 0
+AreDelivered T d delivered = (capability : Capability) → delivery_time delivered capability ≡ delegated_at T d capability
 
 -- the policy is that of the document, which stands last on its chain
 pub record HasPolicy (T : RepliedHistory) (d : ℕ) (policy : PolicyValue) : Type 0 where
@@ -57,6 +81,7 @@ pub record IsRow (T : RepliedHistory) (f : ℕ) (x : Row) : Type 0 where
   pub settled : IsSettled T x
   pub stamp : x.stamp ≡ stamp_of T x.doc
   pub second : x.second ≡ second_stamp_of T x.doc
+  pub delivered : AreDelivered T x.doc x.delivered
   pub attributes : x.attributes ≡ kept_attributes (attributes_of T f)
 
 -- frame f shows the document of this row

@@ -13,6 +13,7 @@ mod replies;
 mod row;
 mod step;
 mod verbs;
+mod verdict;
 
 pub use engine::Engine;
 pub use replies::Replies;

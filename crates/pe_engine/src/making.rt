@@ -14,7 +14,7 @@ ghost use Rattle.pe_policy.specs.PolicyValue.{IsPolicyOf};
 ghost use Rattle.pe_rules.specs.Origins.{origin_of_place, is_blank_kind, sandboxes_origin, declared_by_place};
 ghost use Rattle.pe_engine.specs.Making.{top_of, sandboxes, child_origin, kept_declared, declared_by_kept, IsLinkOf, IsContainedBy, IsTopRow, IsChildRow};
 
-use crate::row::{Attributes, Row};
+use crate::row::{Attributes, Delivered, Row};
 use pe_allowlist::{Container, DeclaredOrigin, read_allow};
 use pe_base::{Bytes, DocNo, EVENT_LIMIT, Stamp};
 use pe_header::read_header;
@@ -245,6 +245,7 @@ pub(crate) fn top_row(
         doc: DocNo::of(number),
         sandboxed: false,
         secure,
+        delivered: Delivered::none(),
         origin,
         single,
         pair,
@@ -279,6 +280,7 @@ pub(crate) fn child_row(
         doc: DocNo::of(number),
         sandboxed,
         secure: embedder.secure,
+        delivered: Delivered::none(),
         origin,
         single,
         pair,

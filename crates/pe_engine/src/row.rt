@@ -3,12 +3,12 @@ ghost use Rattle.std.specs.Prelude.{◌≡◌, refl};
 ghost use Rattle.pe_activation.specs.Stamps.{IsField};
 ghost use Rattle.pe_origin.specs.Origins.{is_same_origin};
 ghost use Rattle.pe_engine.specs.Origins.{same_as_itself};
-ghost use Rattle.pe_engine.specs.Rows.{no_kept_attributes, blocks};
+ghost use Rattle.pe_engine.specs.Rows.{no_kept_attributes, blocks, no_deliveries, delivery_time, with_delivery};
 
 use pe_activation::Activatable;
-use pe_base::{Bytes, DocNo, Stamp};
+use pe_base::{Bytes, DocNo, Millis, Stamp};
 use pe_changes::Governed;
-use pe_features::Feature;
+use pe_features::{Capability, Feature};
 use pe_frames::Numbered;
 use pe_origin::{Origin, Place, same_origin};
 use pe_policy::Policy;
@@ -30,7 +30,20 @@ pub struct Attributes {
     pub fullscreen: bool,
 }
 
-/// What is kept of a document. All but the stamps and the attributes is settled when it is made.
+/// When each capability was last delivered to a document; None where it never was, or where a use has
+/// spent it since (Capability Delegation, "delegated capability").
+#[derive(Clone, Copy, Debug, PartialEq, Eq)]
+pub struct Delivered {
+    /// `payment`.
+    pub payment: Option<Millis>,
+    /// `fullscreen`.
+    pub fullscreen: Option<Millis>,
+    /// `display-capture`.
+    pub display_capture: Option<Millis>,
+}
+
+/// What is kept of a document. All but the stamps, the deliveries and the attributes is settled when it
+/// is made.
 #[derive(Drop)]
 pub struct Row {
     /// The last activation.
@@ -44,6 +57,8 @@ pub struct Row {
     pub sandboxed: bool,
     /// Whether it is in a secure context (Secure Contexts, "secure context").
     pub secure: bool,
+    /// The capabilities that it was delivered.
+    pub delivered: Delivered,
     /// The origin.
     pub origin: Origin,
     /// Under what the permissions are kept that are for the page's top document alone (Permissions,
@@ -68,6 +83,41 @@ impl Attributes {
             allow: None,
             sandbox: None,
             fullscreen: false,
+        }
+    }
+}
+
+impl Delivered {
+    /// No deliveries.
+    pub fn none() -> Delivered
+        ensures { result ≡ no_deliveries }
+    {
+        Delivered {
+            payment: None,
+            fullscreen: None,
+            display_capture: None,
+        }
+    }
+
+    /// The time of the last delivery of the capability that was not spent since.
+    pub fn time(&self, capability: Capability) -> Option<Millis>
+        ensures { result ≡ delivery_time self.now capability }
+    {
+        match capability {
+            Capability::Payment => self.payment,
+            Capability::Fullscreen => self.fullscreen,
+            Capability::DisplayCapture => self.display_capture,
+        }
+    }
+
+    /// Notes that the capability was delivered at this time, or, with None, that it was spent.
+    pub fn note(&mut self, capability: Capability, time: Option<Millis>)
+        ensures { self.new ≡ with_delivery capability time self.old }
+    {
+        match capability {
+            Capability::Payment => self.payment = time,
+            Capability::Fullscreen => self.fullscreen = time,
+            Capability::DisplayCapture => self.display_capture = time,
         }
     }
 }

@@ -5,5 +5,5 @@ mod history;
 mod input;
 mod navigate;
 mod open;
-mod policy;
+pub(crate) mod policy;
 mod state;

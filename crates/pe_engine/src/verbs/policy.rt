@@ -45,7 +45,7 @@ fn answer_of_denial(denial: Option<Denial>) -> Answer
 }
 
 /// Why the feature is denied in the document of this policy.
-fn why_denied(policy: &Policy, feature: Feature) -> Option<Denial>
+pub(crate) fn why_denied(policy: &Policy, feature: Feature) -> Option<Denial>
     ensures { (T : RepliedHistory) (d : ℕ) → HasPolicy T d policy.now → result ≡ why_denied T feature d }
 {
     policy.why(feature)

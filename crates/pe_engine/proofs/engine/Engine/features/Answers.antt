@@ -13,7 +13,7 @@ returns g c = λ H s.
     let T = replied e.duration H in
     let shown = c.row.ensures.shown H c.args.frame s c.in_ok-h.ensures.handle in
     accept-silent c.engine_laws.ensures e c.note.new.self H (timed c.args.now (event.Features c.args.frame)) (answer.Names c.allowed-allowed.result) refl
-    (record { frames = refl; documents = refl; ends = refl; activates = refl; consumes = refl; acts = refl; gives = refl }) s
+    (record { frames = refl; documents = refl; ends = refl; activates = refl; consumes = refl; acts = refl; delivers = refl; spends = refl; gives = refl }) s
     (noted-silent e c.note.new.self e _ _ refl c.in_ok-note.ensures.ok)
     (c.in_ok-h.ensures.rest H _ s refl ∙ other-features T c.args.now c.args.frame)
     (ap answer.Names (c.allowed-allowed.ensures T c.row.result.now.doc shown.row.settled.policy) ∙ sym (features-answer e.duration T c.args.now c.args.frame c.row.result.now.doc shown.document))

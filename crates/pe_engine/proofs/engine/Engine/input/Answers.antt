@@ -22,7 +22,7 @@ returns-then-not-triggers g c = λ H s.
     let T = replied e.duration H in
     let quiet : triggers c.args.kind ≡ false = sym c.triggers.ensures ∙ c.if-not-triggers.true in
     accept-silent c.engine_laws.ensures e c.note.new.self H (timed c.args.now (event.Input c.args.frame c.args.kind)) answer.Ignored refl
-    (record { frames = refl; documents = refl; ends = refl; activates = quiet; consumes = refl; acts = refl; gives = refl }) s
+    (record { frames = refl; documents = refl; ends = refl; activates = quiet; consumes = refl; acts = refl; delivers = refl; spends = refl; gives = refl }) s
     (noted-silent e c.note.new.self e _ _ refl c.in_ok-note.ensures.ok)
     (c.in_ok-h.ensures.rest H _ s refl ∙ other-input T c.args.now c.args.frame c.args.kind) (sym (ignored-input e.duration T c.args.now c.args.frame c.args.kind quiet))
 

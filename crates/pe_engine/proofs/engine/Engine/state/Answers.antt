@@ -15,7 +15,7 @@ returns g c = λ H s.
     let T = replied e.duration H in
     let shown = c.row.ensures.shown H c.args.frame s c.in_ok-h.ensures.handle in
     accept-silent c.engine_laws.ensures e c.note.new.self H (timed c.args.now (event.Ask c.args.frame)) c.activity-answer.result refl
-    (record { frames = refl; documents = refl; ends = refl; activates = refl; consumes = refl; acts = refl; gives = refl }) s
+    (record { frames = refl; documents = refl; ends = refl; activates = refl; consumes = refl; acts = refl; delivers = refl; spends = refl; gives = refl }) s
     (noted-silent e c.note.new.self e _ _ refl c.in_ok-note.ensures.ok)
     (c.in_ok-h.ensures.rest H _ s refl ∙ other-state T c.args.now c.args.frame)
     (c.activity-answer.ensures ∙ ap (λ (v : EngineValue). answer.Activity (is_sticky c.row.result.now.stamp) (is_transient v.duration c.args.now c.row.result.now.stamp)) c.self.view_is

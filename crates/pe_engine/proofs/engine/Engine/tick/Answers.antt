@@ -17,6 +17,6 @@ returns c = λ H s.
     let e = c.args.self.now in
     let T = replied e.duration H in
     accept-silent c.engine_laws.ensures e c.note.new.self H (timed c.args.now event.Tick) answer.Done refl
-    (record { frames = refl; documents = refl; ends = refl; activates = refl; consumes = refl; acts = refl; gives = refl }) s
+    (record { frames = refl; documents = refl; ends = refl; activates = refl; consumes = refl; acts = refl; delivers = refl; spends = refl; gives = refl }) s
     (noted-silent e c.note.new.self e _ _ refl c.in_ok-note.ensures.ok)
     (then-other T c.args.now event.Tick (c.in_ok-next.ensures.none H s) (no-object T event.Tick refl) ∙ other-tick T c.args.now) (sym (done-tick e.duration T c.args.now))
