@@ -108,6 +108,13 @@ plain-is (event.Post sender target named capability) h = cc
 plain-is (event.Deliver message) h = cc
 plain-is event.Tick h = record { makes = λ i. refl; drops = λ i. refl; sets = λ i. refl; dismisses = λ i. refl; ends = λ i. refl }
 
+-- the parts for which an engine stands after a step, its store at a moment
+pub record IsParts (u : EngineValue) (T : RepliedHistory) (moment : ℕ) : Type 0 where
+  pub tree : IsTree T u.made u.frames
+  pub store : IsStore T moment u.store
+  pub statuses : IsStatuses T u.statuses
+  pub named : Each (IsNamed T u.made) u.statuses.live
+
 module _ (laws : EngineLaws) where
   -- ---- statuses that stay
 
@@ -129,13 +136,6 @@ module _ (laws : EngineLaws) where
   )
 
   -- ---- one event more
-
-  -- the parts for which an engine stands after a step, its store at a moment
-  pub record IsParts (u : EngineValue) (T : RepliedHistory) (moment : ℕ) : Type 0 where
-    pub tree : IsTree T u.made u.frames
-    pub store : IsStore T moment u.store
-    pub statuses : IsStatuses T u.statuses
-    pub named : Each (IsNamed T u.made) u.statuses.live
 
   -- an accepted event
   pub stands-by-parts : (e u : EngineValue) (H : History) (x : Timed) (moment : ℕ) → IsTrue (is_regular e.duration H) → e.failed ≡ false → cause_of (replied e.duration H) x.time x.event ≡ None

@@ -29,7 +29,8 @@ use Rattle.pe_engine.specs.Replying.{steps_of, HasPassed, IsReplied}
 use Rattle.pe_engine.specs.Rows.{blocks}
 use Rattle.pe_engine.specs.StandsFor.{EngineValue, IsNamed, StandsForAt, StandsFor}
 use Rattle.pe_engine.specs.Tree.{IsTree}
-use Rattle.pe_engine.proofs.Accepted.{step_of, regular-on, documents-within, named-stays, stands-by-parts}
+use Rattle.pe_engine.proofs.Accepted.{step_of, regular-on, documents-within, named-stays}
+use Rattle.pe_engine.proofs.Passed.{applied-reply}
 use Rattle.pe_engine.proofs.Governing.{all-governed}
 use Rattle.pe_engine.proofs.Gone.{is_gone, without-is}
 use Rattle.pe_engine.proofs.Lists.{each-kept}
@@ -80,18 +81,13 @@ module _ (laws : EngineLaws) where
         → AreGoverned (s ∷ replied e.duration H) (λ (y : Row). y.doc) blocks w.frames.entries w.statuses.live → after.items ≡ changes_after (replied e.duration H) (s ∷ replied e.duration H) x.time)
       → w.frames ≡ u.frames
       → IsReplied e u H x (Ok (record { before = before; answer = said; after = after }))
-  ended-reply e p v w u H x f first m frames gone said before after stands passed has end none says shown tree are live given ended changes same = (none, record {
-    says = says;
-    before = passed.changes_are;
-    after = changes s ends-it store-before statuses-after governed ∙ ap (λ U. changes_after T U x.time) (sym (laws.history.steps.told_step e.duration x H));
-    duration = has.noted.duration;
-    stands = subst (λ t. StandsForAt u (x ∷ H) t) (sym has.noted.clock) (stands-by-parts laws e u H x x.time stands.regular stands.steps.working none m has.noted (record {
-      tree = tree item refl;
-      store = store-after;
-      statuses = statuses-now;
-      named = named-now;
-    }));
-  })
+  ended-reply e p v w u H x f first m frames gone said before after stands passed has end none says shown tree are live given ended changes same =
+      applied-reply laws e p u H x m said before after stands passed none says has.noted (record {
+        tree = tree item refl;
+        store = store-after;
+        statuses = statuses-now;
+        named = named-now;
+      }) (changes s ends-it store-before statuses-after governed)
     where
       T : RepliedHistory
       T = replied e.duration H
