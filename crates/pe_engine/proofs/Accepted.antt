@@ -15,6 +15,8 @@ use Rattle.pe_rules.specs.Replies.{answer_of, replied, step_answer, is_regular, 
 use Rattle.pe_laws.specs.Effects.{effects}
 use Rattle.pe_laws.specs.StatusesLaws.{Each, IsKept}
 use Rattle.pe_changes.specs.Parts.{status_of_row, IsStore, IsStatuses}
+use Rattle.pe_requests.specs.Parts.{IsPrompts}
+use Rattle.pe_messages.specs.Parts.{IsMessages, AreAddressed}
 use Rattle.pe_engine.specs.declared.row.Row.{Row}
 use Rattle.pe_engine.specs.declared.engine.Made.{Made}
 use Rattle.pe_engine.specs.declared.engine.Made.TheVariants as made
@@ -57,7 +59,7 @@ pub record IsNoted (e u : EngineValue) (now : ℕ) (m : Made) (frames : Forest R
 
 -- from what was there, once the tree is another
 pub noted : (e u w : EngineValue) (now : ℕ) (m : Made) (frames : Forest Row) → w ≡ e
-    → u ≡ record { duration = w.duration; clock = now; failed = w.failed; made = w.made ++ m ∷ []; frames = frames; store = w.store; statuses = w.statuses } → IsNoted e u now m frames
+    → u ≡ record { duration = w.duration; clock = now; failed = w.failed; made = w.made ++ m ∷ []; frames = frames; store = w.store; statuses = w.statuses; prompts = w.prompts; messages = w.messages } → IsNoted e u now m frames
 noted e u w now m frames is new = record {
   rest = record {
     noted = record {
@@ -68,13 +70,15 @@ noted e u w now m frames is new = record {
     };
     store = ap (λ (v : EngineValue). v.store) new ∙ ap (λ (v : EngineValue). v.store) is;
     statuses = ap (λ (v : EngineValue). v.statuses) new ∙ ap (λ (v : EngineValue). v.statuses) is;
+    prompts = ap (λ (v : EngineValue). v.prompts) new ∙ ap (λ (v : EngineValue). v.prompts) is;
+    messages = ap (λ (v : EngineValue). v.messages) new ∙ ap (λ (v : EngineValue). v.messages) is;
   };
   frames_are = ap (λ (v : EngineValue). v.frames) new;
 }
 
 -- and where it is as before
 pub noted-silent : (e u w : EngineValue) (now : ℕ) (m : Made) → w ≡ e
-    → u ≡ record { duration = w.duration; clock = now; failed = w.failed; made = w.made ++ m ∷ []; frames = w.frames; store = w.store; statuses = w.statuses } → IsNoted e u now m e.frames
+    → u ≡ record { duration = w.duration; clock = now; failed = w.failed; made = w.made ++ m ∷ []; frames = w.frames; store = w.store; statuses = w.statuses; prompts = w.prompts; messages = w.messages } → IsNoted e u now m e.frames
 noted-silent e u w now m is new = subst (IsNoted e u now m) (ap (λ (v : EngineValue). v.frames) is) (noted e u w now m w.frames is new)
 
 -- ---- plain verbs
@@ -108,14 +112,98 @@ plain-is (event.Post sender target named capability) h = cc
 plain-is (event.Deliver message) h = cc
 plain-is event.Tick h = record { makes = λ i. refl; drops = λ i. refl; sets = λ i. refl; dismisses = λ i. refl; ends = λ i. refl }
 
+-- the prompts and the messages for which an engine stands
+pub record IsQueues (u : EngineValue) (T : RepliedHistory) : Type 0 where
+  pub prompts : IsPrompts T u.prompts
+  pub messages : IsMessages T u.messages
+  pub addressed : AreAddressed T (handle_at u.made) u.messages.waiting
+
 -- the parts for which an engine stands after a step, its store at a moment
 pub record IsParts (u : EngineValue) (T : RepliedHistory) (moment : ℕ) : Type 0 where
   pub tree : IsTree T u.made u.frames
   pub store : IsStore T moment u.store
   pub statuses : IsStatuses T u.statuses
   pub named : Each (IsNamed T u.made) u.statuses.live
+  pub queues : IsQueues u T
+
+-- ---- events that leave prompts and messages
+
+-- the event requests nothing, answers no prompt, posts nothing and delivers nothing
+abbrev pub is_idle : Event → Bool
+is_idle (event.Request frame feature) = false
+is_idle (event.Answered prompt out given) = false
+is_idle (event.Post sender target named capability) = false
+is_idle (event.Deliver message) = false
+is_idle other = true
+
+pub record IsIdle (e : Event) : Type 0 where
+  pub requests : (item : StepAnswer) → (effects e item).requests ≡ false
+  pub settles : (item : StepAnswer) → (effects e item).settles_prompt ≡ false
+  pub posts : (item : StepAnswer) → (effects e item).posts ≡ false
+  pub delivers : (item : StepAnswer) → (effects e item).settles_message ≡ false
+
+pub idle-is : (e : Event) → is_idle e ≡ true → IsIdle e
+idle-is (event.OpenPage url header) h = record { requests = λ i. refl; settles = λ i. refl; posts = λ i. refl; delivers = λ i. refl }
+idle-is (event.Embed parent src place allow sandbox fullscreen srcdoc header) h = record { requests = λ i. refl; settles = λ i. refl; posts = λ i. refl; delivers = λ i. refl }
+idle-is (event.Navigate frame url header) h = record { requests = λ i. refl; settles = λ i. refl; posts = λ i. refl; delivers = λ i. refl }
+idle-is (event.Attr frame name value) h = record { requests = λ i. refl; settles = λ i. refl; posts = λ i. refl; delivers = λ i. refl }
+idle-is (event.Close frame) h = record { requests = λ i. refl; settles = λ i. refl; posts = λ i. refl; delivers = λ i. refl }
+idle-is (event.Input frame kind) h = record { requests = λ i. refl; settles = λ i. refl; posts = λ i. refl; delivers = λ i. refl }
+idle-is (event.Ask frame) h = record { requests = λ i. refl; settles = λ i. refl; posts = λ i. refl; delivers = λ i. refl }
+idle-is (event.History frame) h = record { requests = λ i. refl; settles = λ i. refl; posts = λ i. refl; delivers = λ i. refl }
+idle-is (event.PolicyOf frame feature) h = record { requests = λ i. refl; settles = λ i. refl; posts = λ i. refl; delivers = λ i. refl }
+idle-is (event.Features frame) h = record { requests = λ i. refl; settles = λ i. refl; posts = λ i. refl; delivers = λ i. refl }
+idle-is (event.UseCall frame call) h = record { requests = λ i. refl; settles = λ i. refl; posts = λ i. refl; delivers = λ i. refl }
+idle-is (event.Query frame feature) h = record { requests = λ i. refl; settles = λ i. refl; posts = λ i. refl; delivers = λ i. refl }
+idle-is (event.DropStatus status) h = record { requests = λ i. refl; settles = λ i. refl; posts = λ i. refl; delivers = λ i. refl }
+idle-is (event.Request frame feature) h = cc
+idle-is (event.Answered prompt out given) h = cc
+idle-is (event.SetState feature first second state span) h = record { requests = λ i. refl; settles = λ i. refl; posts = λ i. refl; delivers = λ i. refl }
+idle-is (event.Post sender target named capability) h = cc
+idle-is (event.Deliver message) h = cc
+idle-is event.Tick h = record { requests = λ i. refl; settles = λ i. refl; posts = λ i. refl; delivers = λ i. refl }
+
+-- a plain verb leaves them
+plain-idle : (e : Event) → is_plain e ≡ true → is_idle e ≡ true
+plain-idle (event.Request frame feature) h = cc
+plain-idle (event.Answered prompt out given) h = cc
+plain-idle (event.Post sender target named capability) h = cc
+plain-idle (event.Deliver message) h = cc
+plain-idle other h = refl
 
 module _ (laws : EngineLaws) where
+  -- ---- prompts and messages that stay
+
+  -- the messages, and the handles of their documents
+  pub messages-stay : (e u : EngineValue) (H : History) (x : Timed) (m : Made) (moment : ℕ) → is_idle x.event ≡ true → StandsForAt e H moment → u.messages ≡ e.messages → u.made ≡ e.made ++ m ∷ []
+      → IsMessages (step_of x (step_answer e.duration (replied e.duration H) x.time x.event) ∷ replied e.duration H) u.messages
+      × AreAddressed (step_of x (step_answer e.duration (replied e.duration H) x.time x.event) ∷ replied e.duration H) (handle_at u.made) u.messages.waiting
+  messages-stay e u H x m moment idle stands messages made =
+      let T = replied e.duration H in
+      let item = step_answer e.duration T x.time x.event in
+      let s = step_of x item in
+      let quiet = idle-is x.event idle in (
+        subst (IsMessages (s ∷ T)) (sym messages) (laws.messages.quiet e.duration H x e.messages (quiet.posts item) (quiet.delivers item) stands.steps.messages),
+        rw (messages, made) (laws.messages.addressed_quiet s T (handle_at e.made) (handle_at (e.made ++ m ∷ [])) e.messages stands.steps.messages (grows e.made m) stands.steps.addressed),
+      )
+
+  -- both, where no document ends
+  pub queues-stay : (e u : EngineValue) (H : History) (x : Timed) (m : Made) (moment : ℕ) → is_idle x.event ≡ true → (effects x.event (step_answer e.duration (replied e.duration H) x.time x.event)).ends_documents ≡ false
+      → StandsForAt e H moment → u.prompts ≡ e.prompts → u.messages ≡ e.messages → u.made ≡ e.made ++ m ∷ []
+      → IsQueues u (step_of x (step_answer e.duration (replied e.duration H) x.time x.event) ∷ replied e.duration H)
+  queues-stay e u H x m moment idle ends stands prompts messages made =
+      let T = replied e.duration H in
+      let item = step_answer e.duration T x.time x.event in
+      let s = step_of x item in
+      let quiet = idle-is x.event idle in
+      let (are, addressed) = messages-stay e u H x m moment idle stands messages made in
+      record {
+        prompts = subst (IsPrompts (s ∷ T)) (sym prompts) (subst (λ U. IsPrompts U e.prompts) (laws.history.steps.told_step e.duration x H)
+            (laws.prompts.quiet e.duration H x e.prompts (quiet.requests item) (quiet.settles item) ends stands.steps.prompts));
+        messages = are;
+        addressed = addressed;
+      }
+
   -- ---- statuses that stay
 
   -- the documents of live statuses are positions of the history
@@ -156,6 +244,9 @@ module _ (laws : EngineLaws) where
           store = parts.store;
           statuses = parts.statuses;
           named = parts.named;
+          prompts = parts.queues.prompts;
+          messages = parts.queues.messages;
+          addressed = parts.queues.addressed;
         });
       }
 
@@ -176,6 +267,7 @@ module _ (laws : EngineLaws) where
       store = subst (IsStore (s ∷ T) e.clock) (sym keeps.store) (laws.stores.quiet s T e.clock e.store (quiet.sets item) (quiet.dismisses item) (quiet.ends item) stands.steps.store);
       statuses = subst (IsStatuses (s ∷ T)) (sym keeps.statuses) (laws.statuses.quiet s T e.statuses (quiet.makes item) (quiet.drops item) (quiet.ends item) stands.steps.statuses);
       named = rw (keeps.statuses, keeps.noted.made) (named-stays s T e.made m e.statuses.live (documents-within T e.statuses stands.steps.statuses) stands.steps.named);
+      queues = queues-stay e u H x m e.clock (plain-idle x.event plain) (quiet.ends item) stands keeps.prompts keeps.messages keeps.noted.made;
     });
   }
     where

@@ -1,24 +1,29 @@
 -- The statuses that go with documents.
-use Rattle.std.proofs.Common.{◌≡◌, ℕ, suc, ◌+◌, ◌<◌, ◌≤◌, get_or, drop, drop-cons, Bool, true, false, not, ◌&&◌, ◌||◌, ◌==◌, List, [], ◌∷◌, map, length, Option, Some, None, refl, sym, ◌∙◌, ap, subst, arith, cond, true≢false}
+use Rattle.std.proofs.Common.{◌≡◌, ℕ, suc, ◌+◌, ◌<◌, ◌≤◌, get_or, drop, drop-cons, Bool, true, false, not, ◌&&◌, ◌||◌, ◌==◌, List, [], ◌∷◌, map, length, Option, Some, None, IsTrue, is_some, refl, sym, ◌∙◌, ap, subst, arith, cond, true≢false}
 use Rattle.std.specs.Prelude.{filter}
 use Rattle.std.proofs.Math.ListN.{drop_of_length-le}
 use Rattle.std.specs.List.{list_any}
 use Rattle.std.proofs.lemmas.Bool.Decides.{Decides-eqb, nat_tests}
 use Rattle.pe_arena.specs.declared.handle.Handle.{Handle}
-use Rattle.pe_frames.specs.Forest.{Entry, entry_of, same_handle, is_under, path, with_document}
+use Rattle.pe_frames.specs.Forest.{Entry, Forest, entry_of, same_handle, is_under, path, with_document}
 use Rattle.pe_frames.specs.Order.{in_tree_order, docs_under}
 use Rattle.pe_status.specs.declared.registered.Registered.{Registered}
 use Rattle.pe_status.specs.Registry.{without_document}
-use Rattle.pe_rules.specs.History.{Step, RepliedHistory}
-use Rattle.pe_rules.specs.Current.{ends, frames_above, is_current, document_in}
+use Rattle.pe_prompts.specs.Pending.{Pending, left_by}
+use Rattle.pe_rules.specs.History.{Step, RepliedHistory, History}
+use Rattle.pe_rules.specs.Making.{frame_of}
+use Rattle.pe_rules.specs.Activation.{is_one_of}
+use Rattle.pe_rules.specs.Current.{ends, frames_above, is_current, document_in, is_live}
+use Rattle.pe_rules.specs.Replies.{replied, is_regular}
 use Rattle.pe_laws.specs.HistoryLaws.{HistoryLaws}
 use Rattle.pe_laws.specs.StatusesLaws.{Each}
 use Rattle.pe_engine.specs.declared.row.Row.{Row}
 use Rattle.pe_engine.specs.declared.engine.Made.{Made}
 use Rattle.pe_engine.specs.Leaving.{numbers_of, without_documents}
 use Rattle.pe_engine.specs.Objects.{handle_at, Apart}
-use Rattle.pe_engine.specs.Tree.{IsNode}
-use Rattle.pe_engine.proofs.Governing.{IsFound}
+use Rattle.pe_engine.specs.Tree.{IsNode, IsTree}
+use Rattle.pe_requests.specs.PromptSteps.{left_by_all}
+use Rattle.pe_engine.proofs.Look.{node-at, live-at}
 use Rattle.pe_engine.proofs.Handles.{has-agrees, same_handle-Decides}
 use Rattle.pe_engine.proofs.Lists.{each-all, each-both, each-map, filter-all, filter-and, filter-same}
 
@@ -49,6 +54,15 @@ left-more xs rs i x lt is =
     let next : suc i ≡ i + 1 = omega arith in
     ap (λ (ys : List Row). without_documents (numbers_of ys) rs) (drop-cons xs i x lt) ∙ ap (λ (y : Row). without_documents (numbers_of (drop (suc i) xs)) (without_document y.doc rs)) (sym is)
     ∙ ap (λ (n : ℕ). without_documents (numbers_of (drop n xs)) (without_document x.doc rs)) next
+
+pub dropped-more : (xs : List Row) (ps : Pending) (i : ℕ) (x : Row) → i < length xs → x ≡ get_or xs i x → left_by_all (numbers_of (drop i xs)) ps ≡ left_by_all (numbers_of (drop (i + 1) xs)) (left_by x.doc ps)
+dropped-more xs ps i x lt is =
+    let next : suc i ≡ i + 1 = omega arith in
+    ap (λ (ys : List Row). left_by_all (numbers_of ys) ps) (drop-cons xs i x lt) ∙ ap (λ (y : Row). left_by_all (numbers_of (drop (suc i) xs)) (left_by y.doc ps)) (sym is)
+    ∙ ap (λ (n : ℕ). left_by_all (numbers_of (drop n xs)) (left_by x.doc ps)) next
+
+pub dropped-all : (xs : List Row) (ps : Pending) (i : ℕ) → length xs ≤ i → left_by_all (numbers_of (drop i xs)) ps ≡ ps
+dropped-all xs ps i le = ap (λ (ys : List Row). left_by_all (numbers_of ys) ps) (drop_of_length-le xs le)
 
 pub left-all : (xs : List Row) (rs : List Registered) (i : ℕ) → length xs ≤ i → without_documents (numbers_of (drop i xs)) rs ≡ rs
 unfolding without_documents
@@ -158,23 +172,51 @@ module _ (laws : HistoryLaws) (s : Step) (T : RepliedHistory) (ms : List Made) (
       by_chain true = refl
       by_chain false = rw (none-counted es) refl
 
-  -- a live status stays where its document is none of those that go
-  pub gone-under : (es ws : List (Entry Row)) (gone : List Row) (live : List Registered) → Apart ms → handle_at ms f ≡ Some h → ((fs : List ℕ) → ends fs s.event ≡ list_any (λ g. g == f) fs)
+  -- a current document stays current where it is none of those that go
+  pub gone-under : (es ws : List (Entry Row)) (gone : List Row) → Apart ms → handle_at ms f ≡ Some h → ((fs : List ℕ) → ends fs s.event ≡ list_any (λ g. g == f) fs)
       → Each (IsPlaced T ms) ws → ((keep : ℕ → Bool) → shown_count keep ws ≡ shown_count keep es) → CountsInOrder ws → numbers_of gone ≡ numbers_of (docs_under ws h)
-      → Each (λ r. r.doc.doc ≤ length T) live → Each (λ r. is_current T r.doc.doc ≡ true) live → Each (IsFound T ms es) live
-      → Each (λ r. not (is_gone (numbers_of gone) r.doc.doc) ≡ is_current (s ∷ T) r.doc.doc) live
-  gone-under es ws gone live apart at ended all same counts are within current found =
-      each-all (λ r. (r.doc.doc ≤ length T) × ((is_current T r.doc.doc ≡ true) × IsFound T ms es r)) _ live by_status
-      (each-both (λ r. r.doc.doc ≤ length T) (λ r. (is_current T r.doc.doc ≡ true) × IsFound T ms es r) live within (each-both (λ r. is_current T r.doc.doc ≡ true) (IsFound T ms es) live current found))
+      → ((d : ℕ) → is_current T d ≡ true → (shown_count (λ x. d == x) es == 0) ≡ false)
+      → (d : ℕ) → is_current T d ≡ true → not (is_gone (numbers_of gone) d) ≡ is_current (s ∷ T) d
+  gone-under es ws gone apart at ended all same counts are shows d current =
+      let U = list_any (λ g. g == f) (frames_above T d) in
+      let (least, le) = laws.current.is_current_within T d current in
+      ap not (ap (λ ds. is_gone ds d) are ∙ gone-is ws d apart at all counts ∙ ap (λ b. U && not b) (ap (λ n. n == 0) (same (λ x. d == x)) ∙ shows d current) ∙ with-true U)
+      ∙ sym (laws.current.is_current_older s T d le ∙ ap (λ b. b && not (ends (frames_above T d) s.event)) current ∙ ap not (ended (frames_above T d)))
     where
-      by_status : (r : Registered) → (r.doc.doc ≤ length T) × ((is_current T r.doc.doc ≡ true) × IsFound T ms es r) → not (is_gone (numbers_of gone) r.doc.doc) ≡ is_current (s ∷ T) r.doc.doc
-      by_status r (le, (cur, there)) =
-          let d = r.doc.doc in
-          let U = list_any (λ g. g == f) (frames_above T d) in
-          let some : (shown_count (λ x. d == x) ws == 0) ≡ false = ap (λ n. n == 0) (same (λ x. d == x)) ∙ found-counted (λ x. d == x) es r.doc.at there.entry there.at ((Decides-eqb d there.entry.doc.doc).1 (sym there.document)) in
-          ap not (ap (λ ds. is_gone ds d) are ∙ gone-is ws d apart at all counts ∙ ap (λ b. U && not b) some ∙ with-true U)
-          ∙ sym (laws.current.is_current_older s T d le ∙ ap (λ b. b && not (ends (frames_above T d) s.event)) cur ∙ ap not (ended (frames_above T d)))
-        where
-          with-true : (a : Bool) → (a && true) ≡ a
-          with-true true = refl
-          with-true false = refl
+      with-true : (a : Bool) → (a && true) ≡ a
+      with-true true = refl
+      with-true false = refl
+
+-- the frames show each current document
+pub shows-current : (laws : HistoryLaws) (duration : ℕ) (H : History) (ms : List Made) (v : Forest Row) → IsTrue (is_regular duration H) → IsTree (replied duration H) ms v
+    → (d : ℕ) → is_current (replied duration H) d ≡ true → (shown_count (λ x. d == x) v.entries == 0) ≡ false
+unfolding is_live
+shows-current laws duration H ms v regular st d current = by_handle (handle_at ms f) refl
+  where
+    T : RepliedHistory
+    T = replied duration H
+
+    f : ℕ
+    f = frame_of T d
+
+    shown : document_in T f ≡ Some d
+    shown = laws.current.shown_in_frame duration H d regular current
+
+    by_handle : (o : Option Handle) → handle_at ms f ≡ o → (shown_count (λ x. d == x) v.entries == 0) ≡ false
+    by_handle None is = absurd (true≢false (sym (laws.current.live_is_frame duration H f regular (ap is_some shown)) ∙ st.frames f ∙ ap is_some is))
+    by_handle (Some h) is = by_entry (entry_of v.entries h) refl
+      where
+        by_entry : (o : Option (Entry Row)) → entry_of v.entries h ≡ o → (shown_count (λ x. d == x) v.entries == 0) ≡ false
+        by_entry None none = absurd (true≢false (sym (ap is_some shown) ∙ sym (live-at laws T ms v f h st is) ∙ ap is_some none))
+        by_entry (Some x) found =
+            let (same, node) = node-at T ms v f h x st is found in
+            let z : Some d ≡ Some x.doc.doc = sym shown ∙ ap (document_in T) (sym same) ∙ node.document in
+            found-counted (λ y. d == y) v.entries h x found ((Decides-eqb d x.doc.doc).1 (let i : d ≡ x.doc.doc = cc in i))
+
+-- the same test from the other side
+pub gone-turned : (ds : List ℕ) (d : ℕ) → is_one_of ds d ≡ is_gone ds d
+gone-turned [] d = refl
+gone-turned (x ∷ ds) d = rw (turned x d, gone-turned ds d) refl
+  where
+    turned : (a b : ℕ) → (a == b) ≡ (b == a)
+    turned a b = grind (arith, nat_tests)

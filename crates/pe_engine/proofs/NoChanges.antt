@@ -11,6 +11,9 @@ use Rattle.pe_rules.specs.History.{StepAnswer, Step, RepliedHistory, History, cl
 use Rattle.pe_rules.specs.Changes.{changes_after}
 use Rattle.pe_rules.specs.Replies.{replied, step_answer}
 use Rattle.pe_changes.specs.Parts.{IsStore, IsStatuses, AreGoverned}
+use Rattle.pe_requests.specs.Parts.{IsPrompts}
+use Rattle.pe_messages.specs.Parts.{IsMessages, AreAddressed}
+use Rattle.pe_engine.specs.Objects.{handle_at}
 use Rattle.pe_engine.specs.declared.replies.Replies.{Replies}
 use Rattle.pe_engine.specs.declared.row.Row.{Row}
 use Rattle.pe_engine.specs.Laws.{EngineLaws}
@@ -49,6 +52,9 @@ module _ (laws : EngineLaws) where
         store = subst (λ t. IsStore (step ∷ T) t u.store) (sym clocked) (laws.stores.quiet step T x.time u.store (quiet.sets item) (quiet.dismisses item) (quiet.ends item) (leaves T in-time store));
         statuses = subst (λ U. IsStatuses U w.statuses) told-now is.stands.steps.statuses;
         named = subst (λ U. Each (IsNamed U w.made) w.statuses.live) told-now is.stands.steps.named;
+        prompts = subst (λ U. IsPrompts U w.prompts) told-now is.stands.steps.prompts;
+        messages = subst (λ U. IsMessages U w.messages) told-now is.stands.steps.messages;
+        addressed = subst (λ U. AreAddressed U (handle_at w.made) w.messages.waiting) told-now is.stands.steps.addressed;
       });
     });
   })

@@ -42,7 +42,7 @@ module _ (laws : EngineLaws) where
         changes_are = brings T in-time store s.steps.statuses (all-governed laws.history e.duration H e.made e.frames e.statuses s.regular s.steps.tree s.steps.statuses s.steps.named);
         stands = subst (λ (v : EngineValue). StandsForAt v H now) (sym rest) (record {
           regular = s.regular;
-          steps = record { working = s.steps.working; clock = s.steps.clock; tree = s.steps.tree; store = leaves T in-time store; statuses = s.steps.statuses; named = s.steps.named };
+          steps = record { working = s.steps.working; clock = s.steps.clock; tree = s.steps.tree; store = leaves T in-time store; statuses = s.steps.statuses; named = s.steps.named; prompts = s.steps.prompts; messages = s.steps.messages; addressed = s.steps.addressed };
         });
       }
 

@@ -20,6 +20,8 @@ no_events duration store = record {
   frames = record { entries = []; marks = []; made = 0 };
   store = store;
   statuses = record { live = []; given = [] };
+  prompts = record { given = []; pages = [] };
+  messages = record { waiting = []; given = [] };
 }
 
 none-at : (f : ℕ) → handle_at [] f ≡ None
@@ -44,6 +46,9 @@ starts laws duration store entries dismissals = record {
     store = laws.stores.start store entries dismissals;
     statuses = laws.statuses.start;
     named = tt;
+    prompts = laws.prompts.start;
+    messages = laws.messages.start;
+    addressed = tt;
   };
 }
   where

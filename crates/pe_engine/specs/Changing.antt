@@ -23,6 +23,8 @@ pub record KeepsRest (old new : EngineValue) (now : ℕ) (thing : Made) : Type 0
   pub noted : HasNoted old new now thing
   pub store : new.store ≡ old.store
   pub statuses : new.statuses ≡ old.statuses
+  pub prompts : new.prompts ≡ old.prompts
+  pub messages : new.messages ≡ old.messages
 
 -- a frame of this number was made at a time, below these, with this row
 pub record HasOpened (old new : EngineValue) (now : ℕ) (above : List Handle) (number : ℕ) (row : Row) : Type 0 where

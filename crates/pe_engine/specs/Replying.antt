@@ -26,7 +26,7 @@ timed time e = record { time = time; event = e }
 abbrev pub steps_of : EngineValue → History → RepliedHistory
 steps_of engine H = replied engine.duration H
 
--- the verb is plain: it sets nothing, makes and drops no status, and ends no document, so that it brings no change by itself
+-- the verb is plain: it sets nothing, touches no status, prompt or message, and ends no document, so that it changes frames and documents at most, and brings no change of a status by itself
 abbrev pub is_plain : Event → Bool
 is_plain (event.OpenPage url header) = true
 is_plain (event.Embed parent src place allow sandbox fullscreen srcdoc header) = true

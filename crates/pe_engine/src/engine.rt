@@ -7,7 +7,9 @@ use crate::laws::engine_laws;
 use crate::row::Row;
 use pe_arena::Handle;
 use pe_base::Millis;
+use pe_delegation::Messages;
 use pe_frames::Frames;
+use pe_prompts::Prompts;
 use pe_status::Statuses;
 use pe_store::Store;
 use std::alloc::{AllocError, Global};
@@ -41,6 +43,8 @@ pub struct Engine {
     pub(crate) frames: Frames<Row>,
     pub(crate) store: Store,
     pub(crate) statuses: Statuses,
+    pub(crate) prompts: Prompts,
+    pub(crate) messages: Messages,
 }
 
 impl Model for Engine {
@@ -50,7 +54,7 @@ impl Model for Engine {
 
     ghost Value = { EngineValue };
 
-    ghost view = { λ e. record { duration = e.duration; clock = e.clock; failed = e.failed; made = e.made.items; frames = e.frames; store = e.store; statuses = e.statuses } };
+    ghost view = { λ e. record { duration = e.duration; clock = e.clock; failed = e.failed; made = e.made.items; frames = e.frames; store = e.store; statuses = e.statuses; prompts = e.prompts; messages = e.messages } };
 
     ghost invariant = { λ e. (length e.made.items ≤ EVENT_LIMIT) × (e.frames.made ≤ length e.made.items) };
 }
@@ -77,6 +81,8 @@ impl Engine {
             frames: Frames::new(alloc),
             store: Store::new(alloc),
             statuses: Statuses::new(alloc),
+            prompts: Prompts::new(alloc),
+            messages: Messages::new(alloc),
         }
     }
 

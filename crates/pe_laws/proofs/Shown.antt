@@ -111,10 +111,14 @@ unfolding last_document newest_answer
 framed [] live f d h = cc
 framed (s ∷ T) live f d h = framed-step s T f d live.0 (framed T live.1) h
 
+pub live-framed : (duration : ℕ) (H : History) (f : ℕ) → is_regular duration H ≡ true → is_live (replied duration H) f ≡ true → is_frame (replied duration H) f ≡ true
+live-framed duration H f regular live =
+    let last = live-last (replied duration H) f live in
+    framed (replied duration H) (regular-names duration H regular) f last.0 last.1
+
 pub live-made : (duration : ℕ) (H : History) (f : ℕ) → is_regular duration H ≡ true → is_live (replied duration H) f ≡ true → (1 ≤ f) × (f ≤ length (replied duration H))
 live-made duration H f regular live =
-    let last = live-last (replied duration H) f live in
-    frame-within (replied duration H) f (framed (replied duration H) (regular-names duration H regular) f last.0 last.1)
+    frame-within (replied duration H) f (live-framed duration H f regular live)
 
 -- ---- a current document is the one of its frame
 

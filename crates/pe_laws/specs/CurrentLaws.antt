@@ -1,7 +1,7 @@
 -- Laws of current documents and live frames: what one step leaves, and what is gone stays gone.
 use Rattle.std.specs.Prelude.{◌≡◌, ◌≢◌, ℕ, ◌≤◌, false, not, ◌&&◌, IsTrue, ◌∷◌, ◌++◌, length, Option, Some, None, is_some, option_and_then}
 use Rattle.pe_rules.specs.History.{Step, RepliedHistory, History, some_if}
-use Rattle.pe_rules.specs.Numbering.{document_frame}
+use Rattle.pe_rules.specs.Numbering.{is_frame, document_frame}
 use Rattle.pe_rules.specs.Making.{making_by, frame_of}
 use Rattle.pe_rules.specs.Current.{ends, frames_above, is_current, document_in, is_live}
 use Rattle.pe_rules.specs.Replies.{replied, is_regular}
@@ -32,6 +32,8 @@ pub record CurrentLaws : Type 0 where
   -- in a regular history a current document is the one of its frame
   pub shown_in_frame : (duration : ℕ) (H : History) (d : ℕ) → IsTrue (is_regular duration H)
       → IsTrue (is_current (replied duration H) d) → document_in (replied duration H) (frame_of (replied duration H) d) ≡ Some d
-  -- in a regular history a live frame was made
+  -- in a regular history a live frame was made, and its number is that of a frame
+  pub live_is_frame : (duration : ℕ) (H : History) (f : ℕ) → IsTrue (is_regular duration H)
+      → IsTrue (is_live (replied duration H) f) → IsTrue (is_frame (replied duration H) f)
   pub live_frame_made : (duration : ℕ) (H : History) (f : ℕ) → IsTrue (is_regular duration H)
       → IsTrue (is_live (replied duration H) f) → (1 ≤ f) × (f ≤ length (replied duration H))

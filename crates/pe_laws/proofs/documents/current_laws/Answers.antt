@@ -1,5 +1,5 @@
 use Rattle.pe_laws.proofs.Current.{frames-older, current-older, current-newest, current-within, gone-stays, gone-stays-along, document-in-made, document-in-beside, document-in-other, document-in-frame}
-use Rattle.pe_laws.proofs.Shown.{shown-in-frame, live-made}
+use Rattle.pe_laws.proofs.Shown.{shown-in-frame, live-framed, live-made}
 use Rattle.pe_laws.proofs.documents.current_laws.Goals as goal
 
 pub returns : goal.returns
@@ -15,5 +15,6 @@ returns c = record {
   document_in_other = document-in-other;
   document_in_frame = document-in-frame;
   shown_in_frame = shown-in-frame;
+  live_is_frame = live-framed;
   live_frame_made = live-made;
 }

@@ -9,11 +9,10 @@ use Rattle.pe_engine.specs.declared.row.Row.{Row}
 use Rattle.pe_engine.specs.Leaving.{numbers_of}
 use Rattle.pe_engine.specs.StandsFor.{EngineValue}
 use Rattle.pe_engine.specs.Replying.{timed}
-use Rattle.pe_engine.proofs.Accepted.{step_of, documents-within}
+use Rattle.pe_engine.proofs.Accepted.{step_of}
 use Rattle.pe_engine.proofs.Answering.{replied-for, replied-memory}
 use Rattle.pe_engine.proofs.Ended.{has-ended, ended-reply}
-use Rattle.pe_engine.proofs.Gone.{CountsInOrder, placed, gone-under}
-use Rattle.pe_engine.proofs.Governing.{statuses-current, each-status}
+use Rattle.pe_engine.proofs.Gone.{CountsInOrder, placed, gone-under, shows-current}
 use Rattle.pe_engine.proofs.Kept.{kept-close}
 use Rattle.pe_engine.proofs.VerbAnswers.{other-close, done-close}
 use Rattle.pe_engine.proofs.engine.Engine.close.Goals as goal
@@ -50,13 +49,12 @@ returns g c = λ H s.
     let counted : CountsInOrder e.frames.entries = subst (λ (v : Forest Row). CountsInOrder v.entries) frames c.is_counted_in_tree_order.ensures.counted in
     let gone_is = ap numbers_of (c.deref.ensures.value ∙ c.in-Ok.ensures.documents ∙ ap (λ (v : Forest Row). docs_under v.entries h) frames) in
     ended-reply laws e p _ c.leave.new.self c.note.new.self H x f row.doc made.Nothing N c.deref.result.now answer.Done c.in_ok-before.before c.in_ok-after.after s (c.in_ok-before.ensures.passed H s c.in_ok-h.ensures.late) has
-    (record { ended = λ fs. refl; makes = λ i. refl; drops = λ i. refl }) none (sym (done-close e.duration T c.args.now f)) shown.document
+    (record { ended = λ fs. refl; makes = λ i. refl; drops = λ i. refl; idle = refl; requests = λ i. refl; settles = λ i. refl }) none (sym (done-close e.duration T c.args.now f)) shown.document
     (λ item is. rw (has.noted.made, has.frames_are) (kept-close laws.history (step_of x item) T e.made e.frames N f h refl c.in_ok-h.ensures.handle
     (c.in-Ok.ensures.entries ∙ ap (λ (v : Forest Row). closed h v.entries) frames) (c.close.ensures.marks ∙ ap (λ (v : Forest Row). v.marks) frames) s.steps.tree))
-    (λ item. gone-under laws.history (step_of x item) T e.made f h e.frames.entries e.frames.entries c.deref.result.now e.statuses.live s.steps.tree.apart c.in_ok-h.ensures.handle (λ fs. refl)
+    (λ item. gone-under laws.history (step_of x item) T e.made f h e.frames.entries e.frames.entries c.deref.result.now s.steps.tree.apart c.in_ok-h.ensures.handle (λ fs. refl)
     (placed T e.made e.frames.entries s.steps.tree.nodes) (λ keep. refl) counted gone_is
-    (documents-within laws T e.statuses s.steps.statuses) (statuses-current laws.history T e.statuses s.steps.statuses)
-    (each-status laws.history e.duration H e.made e.frames e.statuses s.regular s.steps.tree s.steps.statuses s.steps.named))
-    c.in_ok-after.ensures.live c.in_ok-after.ensures.given c.in_ok-after.ensures.store
+    (shows-current laws.history e.duration H e.made e.frames s.regular s.steps.tree))
+    c.in_ok-after.ensures.live c.in_ok-after.ensures.given c.in_ok-after.ensures.prompts c.in_ok-after.ensures.pending c.in_ok-after.ensures.store
     (λ t ending stored statuses governed. c.in_ok-after.ensures.changes e.duration H t f s.regular ending shown.document stored statuses governed)
     (ap (λ (v : EngineValue). v.frames) c.in_ok-after.ensures.rest ∙ sym has.frames_are)

@@ -13,12 +13,11 @@ use Rattle.pe_engine.specs.Leaving.{numbers_of}
 use Rattle.pe_engine.specs.Replying.{timed}
 use Rattle.pe_engine.specs.Rows.{no_kept_attributes, IsSettled}
 use Rattle.pe_engine.specs.StandsFor.{EngineValue}
-use Rattle.pe_engine.proofs.Accepted.{step_of, documents-within}
+use Rattle.pe_engine.proofs.Accepted.{step_of}
 use Rattle.pe_engine.proofs.Answering.{replied-for, replied-memory, replied-place}
 use Rattle.pe_engine.proofs.CommonCauses.{some-of}
 use Rattle.pe_engine.proofs.Ended.{has-ended, ended-reply}
-use Rattle.pe_engine.proofs.Gone.{CountsInOrder, placed, placed-with, same-document, count-with, gone-under}
-use Rattle.pe_engine.proofs.Governing.{statuses-current, each-status}
+use Rattle.pe_engine.proofs.Gone.{CountsInOrder, placed, placed-with, same-document, count-with, gone-under, shows-current}
 use Rattle.pe_engine.proofs.Look.{node-at}
 use Rattle.pe_engine.proofs.Navigated.{url-nav, other-nav, navigated-anyway, navigation}
 use Rattle.pe_engine.proofs.engine.Engine.navigate.Goals as goal
@@ -80,14 +79,13 @@ returns g c = λ H s.
     let written = ap (λ (w : Forest Row). w.entries) taken.1 in
     let gone_is = ap numbers_of (c.deref.ensures.value ∙ c.in-Ok-navigate.ensures.documents ∙ ap (λ (w : Forest Row). docs_under w.entries h) taken.1) in
     rw (c.of.ensures, c.in_ok-origin.ensures) (ended-reply laws e p _ c.leave.new.self c.note.new.self H v f c.row.result.now.doc made.Doc N c.deref.result.now _ c.in_ok-before.before c.in_ok-after.after s (c.in_ok-before.ensures.passed H s c.in_ok-number.ensures.late) has
-    (record { ended = λ fs. refl; makes = λ i. refl; drops = λ i. refl }) (c.in_ok-number.ensures.rest H _ s refl ∙ other-nav T c.args.now f c.args.url.now c.args.header.now c.in-Ok.place named) says shown.document
+    (record { ended = λ fs. refl; makes = λ i. refl; drops = λ i. refl; idle = refl; requests = λ i. refl; settles = λ i. refl }) (c.in_ok-number.ensures.rest H _ s refl ∙ other-nav T c.args.now f c.args.url.now c.args.header.now c.in-Ok.place named) says shown.document
     (λ item is. rw (has.noted.made, has.frames_are) (tree item))
-    (λ item. gone-under laws.history (step_of v item) T e.made f h e.frames.entries (map (with_document h bare) e.frames.entries) c.deref.result.now e.statuses.live s.steps.tree.apart c.in_ok-number.ensures.handle (λ fs. refl)
+    (λ item. gone-under laws.history (step_of v item) T e.made f h e.frames.entries (map (with_document h bare) e.frames.entries) c.deref.result.now s.steps.tree.apart c.in_ok-number.ensures.handle (λ fs. refl)
     (placed-with T e.made h bare e.frames.entries (placed T e.made e.frames.entries s.steps.tree.nodes) same) (count-with h bare e.frames.entries same)
     (subst CountsInOrder written c.is_counted_in_tree_order.ensures.counted) gone_is
-    (documents-within laws T e.statuses s.steps.statuses) (statuses-current laws.history T e.statuses s.steps.statuses)
-    (each-status laws.history e.duration H e.made e.frames e.statuses s.regular s.steps.tree s.steps.statuses s.steps.named))
-    c.in_ok-after.ensures.live c.in_ok-after.ensures.given c.in_ok-after.ensures.store
+    (shows-current laws.history e.duration H e.made e.frames s.regular s.steps.tree))
+    c.in_ok-after.ensures.live c.in_ok-after.ensures.given c.in_ok-after.ensures.prompts c.in_ok-after.ensures.pending c.in_ok-after.ensures.store
     (λ t ending stored statuses governed. c.in_ok-after.ensures.changes e.duration H t f s.regular ending shown.document stored statuses governed)
     (ap (λ (w : EngineValue). w.frames) c.in_ok-after.ensures.rest ∙ sym has.frames_are))
 
