@@ -17,3 +17,6 @@ mod verdict;
 
 pub use engine::Engine;
 pub use replies::Replies;
+
+#[cfg(test)]
+mod tests;
