@@ -26,3 +26,4 @@ pub mod Delivered
 pub mod Consumed
 pub mod Deciding
 pub mod Firing
+pub mod Settings

@@ -119,6 +119,13 @@ impl Engine {
                 self.navigate(now, *frame, url, header, steps)
             }
             Event::Close { frame } => self.close(now, *frame, steps),
+            Event::SetState {
+                feature,
+                first,
+                second,
+                state,
+                span,
+            } => self.set(now, feature, first, second, *state, *span, steps),
             Event::OpenPage { .. }
             | Event::Embed { .. }
             | Event::Attr { .. }
@@ -132,7 +139,6 @@ impl Engine {
             | Event::DropStatus { .. }
             | Event::Request { .. }
             | Event::Answered { .. }
-            | Event::SetState { .. }
             | Event::Post { .. }
             | Event::Deliver { .. }
             | Event::Tick => self.reply_after_time(stamped, steps),
