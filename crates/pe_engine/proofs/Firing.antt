@@ -1,22 +1,20 @@
 -- Changes name statuses that are live.
-use Rattle.std.proofs.Common.{◌≡◌, ℕ, ◌+◌, ◌-◌, Bool, true, false, not, ◌||◌, ◌==◌, List, [], ◌∷◌, ◌++◌, Option, Some, None, Result, Ok, Err, IfOk, IsTrue, refl, sym, ◌∙◌, ap, subst, cond}
+use Rattle.std.proofs.Common.{◌≡◌, ℕ, ◌-◌, Bool, true, false, not, ◌||◌, ◌==◌, List, [], ◌∷◌, ◌++◌, Option, Some, None, Result, Ok, Err, IfOk, IsTrue, refl, sym, subst}
 use Rattle.std.specs.Prelude.{filter, flat_map, option_to_list}
 use Rattle.std.specs.List.{list_any}
 use Rattle.std.proofs.lemmas.Bool.Decides.{Decides-eqb}
 use Rattle.pe_base.specs.declared.state.State.{State}
 use Rattle.pe_events.specs.declared.answer.Change.{Change}
 use Rattle.pe_events.specs.declared.cause.Cause.{Cause}
-use Rattle.pe_events.specs.declared.event.Event.{Event}
 use Rattle.pe_events.specs.Timed.{Timed}
 use Rattle.pe_rules.specs.History.{RepliedHistory, History, some_if, clock}
 use Rattle.pe_rules.specs.Statuses.{Status, live_statuses}
-use Rattle.pe_rules.specs.Causes.{cause_of}
 use Rattle.pe_rules.specs.Changes.{is_same_state, change_of, change_at, changes_at, changes_before, change_between, is_live_in, changes_after, numbers_above}
 use Rattle.pe_rules.specs.PermissionState.{permission_state}
 use Rattle.pe_laws.specs.StatusesLaws.{Each}
 use Rattle.pe_engine.specs.declared.replies.Replies.{Replies}
 use Rattle.pe_engine.specs.Promises.{AreOfLive}
-use Rattle.pe_engine.specs.Replying.{timed, steps_of}
+use Rattle.pe_engine.specs.Replying.{steps_of}
 use Rattle.pe_engine.specs.StandsFor.{EngineValue}
 use Rattle.pe_engine.specs.Stepping.{IsReplyBy, IsReply}
 use Rattle.pe_engine.proofs.Lists.{each-passed, each-kept, each-all}
@@ -71,11 +69,11 @@ after-live : (T U : RepliedHistory) (now : ℕ) → AreOfLive T (changes_after T
 unfolding changes_after change_between
 after-live T U now = (
   each-flat (λ (c : Change). IsLive T c.status) (λ (x : Status). IsLive T x.number) _ (filter (is_live_in U) (live_statuses T))
-  (λ x h. of-status (IsLive T) now x (permission_state T now x.document x.feature) (permission_state U now x.document x.feature) h)
-  (each-kept (λ (x : Status). IsLive T x.number) (λ (x : Status). IsLive T x.number) (is_live_in U) (live_statuses T) (λ x h z. h) (each-among (live_statuses T))),
+      (λ x h. of-status (IsLive T) now x (permission_state T now x.document x.feature) (permission_state U now x.document x.feature) h)
+      (each-kept (λ (x : Status). IsLive T x.number) (λ (x : Status). IsLive T x.number) (is_live_in U) (live_statuses T) (λ x h z. h) (each-among (live_statuses T))),
   each-flat (λ (c : Change). IsLive U c.status) (λ (x : Status). IsLive U x.number) _ (filter (is_live_in U) (live_statuses T))
-  (λ x h. of-status (IsLive U) now x (permission_state T now x.document x.feature) (permission_state U now x.document x.feature) h)
-  (each-passed (λ (x : Status). IsLive U x.number) (is_live_in U) (live_statuses T) (λ x h. h)),
+      (λ x h. of-status (IsLive U) now x (permission_state T now x.document x.feature) (permission_state U now x.document x.feature) h)
+      (each-passed (λ (x : Status). IsLive U x.number) (is_live_in U) (live_statuses T) (λ x h. h)),
 )
 
 -- ---- the clauses of a step

@@ -1,5 +1,5 @@
 -- What a setting is answered, and what the engine stands for after it.
-use Rattle.std.proofs.Common.{◌≡◌, ℕ, ◌+◌, ◌<◌, Bool, true, false, not, ◌&&◌, ◌||◌, nat_le, nat_lt, List, [], ◌∷◌, ◌++◌, length, Option, Some, None, Result, Ok, Err, IsTrue, is_some, option_map, option_and_then, unwrap_or, Bor, refl, sym, ◌∙◌, ap, subst, cond, arith}
+use Rattle.std.proofs.Common.{◌≡◌, ℕ, ◌+◌, Bool, true, false, not, ◌&&◌, ◌||◌, nat_le, nat_lt, List, [], ◌∷◌, ◌++◌, length, Option, Some, None, Result, Ok, Err, IsTrue, is_some, option_map, option_and_then, unwrap_or, Bor, refl, sym, ◌∙◌, ap, subst, arith}
 use Rattle.std.specs.Prelude.{is_err, OnOk}
 use Rattle.std.specs.Option.{option_or, option_copied}
 use Rattle.std.specs.Global.{Vec}
@@ -8,17 +8,13 @@ use Rattle.pe_base.specs.declared.limits.TheConstants.{STORE_LIMIT, TIME_LIMIT}
 use Rattle.pe_base.specs.declared.state.State.{State}
 use Rattle.pe_features.specs.declared.feature.Feature.{Feature}
 use Rattle.pe_features.specs.Features.{feature_named, key_of}
-use Rattle.pe_frames.specs.Forest.{Forest}
 use Rattle.pe_origin.specs.declared.origin.Origin.{Origin}
-use Rattle.pe_store.specs.declared.key.Life.{Life}
 use Rattle.pe_store.specs.Entries.{StoreValue, entry_of, IsOnePerPair}
 use Rattle.pe_store.specs.Pairs.{Pair}
-use Rattle.pe_status.specs.Registry.{Registry}
 use Rattle.pe_events.specs.declared.answer.Answer.TheVariants as answer
 use Rattle.pe_events.specs.declared.answer.Change.{Change}
 use Rattle.pe_events.specs.declared.cause.Cause.{Cause}
 use Rattle.pe_events.specs.declared.cause.Cause.TheVariants as cause
-use Rattle.pe_events.specs.declared.event.Event.{Event}
 use Rattle.pe_events.specs.declared.event.Event.TheVariants as event
 use Rattle.pe_events.specs.Fitting.{is_span_or_none}
 use Rattle.pe_events.specs.Timed.{Timed}
@@ -27,7 +23,6 @@ use Rattle.pe_rules.specs.Settings.{Setting, word_origin, key_of_words, life_for
 use Rattle.pe_rules.specs.Causes.{cause_of, entries, is_no_origin, lacks_origins, has_bad_url, has_bad_feature, has_bad_call, has_bad_capability, names_other_page, exceeds_pages, exceeds_depth, exceeds_frames, exceeds_statuses, exceeds_pending, exceeds_store}
 use Rattle.pe_rules.specs.Changes.{changes_after}
 use Rattle.pe_rules.specs.Replies.{answer_of, replied, step_answer}
-use Rattle.pe_laws.specs.StatusesLaws.{Each}
 use Rattle.pe_changes.specs.Parts.{IsStore, IsStatuses, AreGoverned}
 use Rattle.pe_changes.specs.StoreSteps.{IsSet}
 use Rattle.pe_engine.specs.declared.engine.Made.TheVariants as made

@@ -165,7 +165,11 @@ impl Engine {
             now,
             steps,
         )?;
-        if self.store.set(feature, key, state, life_for(now, span)).is_err() {
+        if self
+            .store
+            .set(feature, key, state, life_for(now, span))
+            .is_err()
+        {
             return Err(Refusal::Memory);
         }
         self.note(now, Made::Nothing)?;

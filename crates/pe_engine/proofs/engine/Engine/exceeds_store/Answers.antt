@@ -13,8 +13,8 @@ returns-then-is_some g c = λ H s.
     let e = c.args.self.now in
     let T = replied e.duration H in
     let there : has_entry T (c.args.feature, c.args.key.now) ≡ true =
-        sym (entry-there c.engine_laws.ensures e H (c.args.feature, c.args.key.now) s) ∙ ap (λ (v : EngineValue). is_some (entry_of v.store.entries (c.args.feature, c.args.key.now))) (sym c.self.view_is)
-        ∙ sym (ap is_some c.get.ensures.value) ∙ some-copied c.get.result ∙ sym c.is_some.ensures ∙ c.if-is_some.true in
+    sym (entry-there c.engine_laws.ensures e H (c.args.feature, c.args.key.now) s) ∙ ap (λ (v : EngineValue). is_some (entry_of v.store.entries (c.args.feature, c.args.key.now))) (sym c.self.view_is)
+    ∙ sym (ap is_some c.get.ensures.value) ∙ some-copied c.get.result ∙ sym c.is_some.ensures ∙ c.if-is_some.true in
     ap (λ b. not b && nat_le STORE_LIMIT (length (entries T))) (sym there)
 
 pub returns : goal.returns
@@ -22,9 +22,9 @@ returns g c = λ H s.
     let e = c.args.self.now in
     let T = replied e.duration H in
     let missing : has_entry T (c.args.feature, c.args.key.now) ≡ false =
-        sym (entry-there c.engine_laws.ensures e H (c.args.feature, c.args.key.now) s) ∙ ap (λ (v : EngineValue). is_some (entry_of v.store.entries (c.args.feature, c.args.key.now))) (sym c.self.view_is)
-        ∙ sym (ap is_some c.get.ensures.value) ∙ some-copied c.get.result ∙ sym c.is_some.ensures ∙ c.if-is_some.false in
+    sym (entry-there c.engine_laws.ensures e H (c.args.feature, c.args.key.now) s) ∙ ap (λ (v : EngineValue). is_some (entry_of v.store.entries (c.args.feature, c.args.key.now))) (sym c.self.view_is)
+    ∙ sym (ap is_some c.get.ensures.value) ∙ some-copied c.get.result ∙ sym c.is_some.ensures ∙ c.if-is_some.false in
     let count : c.len.result ≡ length (entries T) =
-        c.len.ensures.count ∙ ap (λ (v : EngineValue). length v.store.entries) c.self.view_is
-        ∙ entries-counted c.engine_laws.ensures e H s (subst (λ (v : EngineValue). IsOnePerPair v.store.entries) c.self.view_is c.is_one_per_pair.ensures) in
+    c.len.ensures.count ∙ ap (λ (v : EngineValue). length v.store.entries) c.self.view_is
+    ∙ entries-counted c.engine_laws.ensures e H s (subst (λ (v : EngineValue). IsOnePerPair v.store.entries) c.self.view_is c.is_one_per_pair.ensures) in
     ap (nat_le STORE_LIMIT) count ∙ ap (λ b. not b && nat_le STORE_LIMIT (length (entries T))) (sym missing)

@@ -1,4 +1,4 @@
-use Rattle.std.proofs.Common.{◌≡◌, false, [], ◌∷◌, ◌++◌, Some, None, Ok, Err, refl, sym, ◌∙◌, ap, subst}
+use Rattle.std.proofs.Common.{[], ◌∷◌, ◌++◌, Some, None, Ok, Err, refl, sym, ◌∙◌, ap, subst}
 use Rattle.std.specs.Option.{option_or}
 use Rattle.pe_store.specs.Pairs.{Pair}
 use Rattle.pe_store.specs.declared.key.Life.{Life}
@@ -8,7 +8,7 @@ use Rattle.pe_rules.specs.History.{some_if}
 use Rattle.pe_rules.specs.Replies.{replied}
 use Rattle.pe_changes.specs.StoreSteps.{IsSet}
 use Rattle.pe_engine.specs.declared.engine.Made.TheVariants as made
-use Rattle.pe_engine.specs.Giving.{words_cause, pair_of_words, GivesPair}
+use Rattle.pe_engine.specs.Giving.{GivesPair}
 use Rattle.pe_engine.specs.Replying.{timed}
 use Rattle.pe_engine.specs.StandsFor.{EngineValue}
 use Rattle.pe_engine.proofs.Answering.{replied-for}
@@ -64,9 +64,9 @@ returns g c = λ H s.
     ∙ ap (λ b. option_or (some_if b cause.LimitStore) None) (sym (c.exceeds_store.ensures H s) ∙ c.if-exceeds_store.false) in
     let stored = sym c.is_err.ensures.value ∙ c.if-is_err.false in
     let set : IsSet y p.store S =
-        subst (λ (v : EngineValue). IsSet y v.store S) c.self-2.view_is
-        (subst (λ (l : Life). IsSet (record { pair = pair; state = c.args.state; life = l }) c.self-2.inside.store S) c.life_for.ensures
-        (record { found = ok-of _ c.set.result stored c.set.ensures.found; dismissals = ok-of _ c.set.result stored c.set.ensures.dismissals })) in
+    subst (λ (v : EngineValue). IsSet y v.store S) c.self-2.view_is
+    (subst (λ (l : Life). IsSet (record { pair = pair; state = c.args.state; life = l }) c.self-2.inside.store S) c.life_for.ensures
+    (record { found = ok-of _ c.set.result stored c.set.ensures.found; dismissals = ok-of _ c.set.result stored c.set.ensures.dismissals })) in
     let has = has-set e p u S now y c.in_ok-before.ensures.rest
     (c.in_ok-note.ensures.ok ∙ ap (λ (v : EngineValue). record v { store = S; clock = now; made = v.made ++ made.Nothing ∷ [] }) c.self-2.view_is) set in
     set-reply laws e p u S H now c.args.feature.now c.args.first.now c.args.second.now c.args.state c.args.span pair c.in_ok-before.before c.in_ok-after.after
