@@ -25,3 +25,5 @@ pub mod Ended
 pub mod Delivered
 pub mod Consumed
 pub mod Deciding
+pub mod Stored
+pub mod Uses
