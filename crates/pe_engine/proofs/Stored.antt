@@ -1,12 +1,10 @@
 -- What is stored at a time, by the store as it was at the clock, and the frames that show documents.
 use Rattle.std.proofs.Common.{◌≡◌, ◌≢◌, ℕ, ◌≤◌, Bool, true, false, not, ◌||◌, ◌==◌, List, [], ◌∷◌, length, Option, Some, None, is_some, is_none, option_map, option_and_then, IsTrue, refl, sym, ◌∙◌, ap, subst, arith, true≢false}
 use Rattle.std.proofs.lemmas.Bool.Decides.{Decides-eqb}
-use Rattle.pe_base.specs.declared.state.State.{State}
 use Rattle.pe_arena.specs.declared.handle.Handle.{Handle}
 use Rattle.pe_frames.specs.Forest.{entry_of}
 use Rattle.pe_features.specs.declared.call.Call.{Call}
 use Rattle.pe_features.specs.declared.feature.Feature.{Feature}
-use Rattle.pe_store.specs.declared.entry.Entry.{Entry}
 use Rattle.pe_store.specs.declared.key.Key.{Key}
 use Rattle.pe_store.specs.declared.key.Life.{Life}
 use Rattle.pe_store.specs.declared.key.Life.TheVariants as life

@@ -40,7 +40,7 @@ use Rattle.pe_engine.specs.Replying.{timed}
 use Rattle.pe_engine.specs.Rows.{with_delivery}
 use Rattle.pe_engine.specs.StandsFor.{EngineValue, StandsFor}
 use Rattle.pe_engine.specs.Tree.{IsTree}
-use Rattle.pe_engine.specs.Using.{IsConsumed, IsConsumedIf, IsSpent, HasTaken}
+use Rattle.pe_engine.specs.Using.{IsConsumedIf, IsSpent, HasTaken}
 use Rattle.pe_engine.proofs.Accepted.{step_of}
 use Rattle.pe_engine.proofs.Consumed.{kept-use-consumed, kept-use-silent}
 use Rattle.pe_engine.proofs.Delivered.{kept-spent}
@@ -108,7 +108,7 @@ delegated-capability duration T now d call is =
     let (none, way) = by-allowed (reason_denied duration T now d gate) (met_by gate.need (has_transient duration T now d)) via.Delegated is in
     let (needs, late) = met-delegated gate.need (has_transient duration T now d) way in
     let unmet = last-none (some_if (gate.secure && not (is_secure T d)) reason.Insecure) (option_map reason.Policy (option_and_then (λ f. why_denied T f d) gate.feature)) (permission_reason T now d gate)
-        (activation_reason gate.need (has_sticky T d) (has_transient duration T now d) (is_met_by_delegated duration T now d gate)) none in
+    (activation_reason gate.need (has_sticky T d) (has_transient duration T now d) (is_met_by_delegated duration T now d gate)) none in
     of-capability (has_delegated duration T now d) gate.capability (needs-held gate.need (has_sticky T d) (has_transient duration T now d) (is_met_by_delegated duration T now d gate) needs late unmet)
 
 -- ---- what a use leaves of the tree

@@ -7,3 +7,4 @@ mod navigate;
 mod open;
 pub(crate) mod policy;
 mod state;
+mod use_call;

@@ -1,6 +1,5 @@
-use Rattle.std.proofs.Common.{◌≡◌, ◌≤◌, Some, None, option_map, sym, ◌∙◌, ap, arith, true≢false}
+use Rattle.std.proofs.Common.{◌≡◌, ◌≤◌, Some, sym, ◌∙◌, ap, arith, true≢false}
 use Rattle.pe_frames.specs.Forest.{entry_of, top_of}
-use Rattle.pe_rules.specs.History.{clock}
 use Rattle.pe_rules.specs.Replies.{replied}
 use Rattle.pe_rules.specs.Verdicts.{verdict_of}
 use Rattle.pe_engine.specs.Objects.{handle_at}
