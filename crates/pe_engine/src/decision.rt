@@ -1,5 +1,5 @@
 //! Whether the document of a frame may make a call, at a time.
-ghost use Rattle.std.specs.Prelude.{◌≡◌, ◌+◌, ◌≤◌, ◌↔◌, ℕ, false, Some, None, IsSome, option_and_then};
+ghost use Rattle.std.specs.Prelude.{◌≡◌, ◌+◌, ◌≤◌, ◌↔◌, ℕ, false, Some, None, IsSome};
 ghost use Rattle.pe_frames.specs.Forest.{entry_of};
 ghost use Rattle.pe_rules.specs.History.{RepliedHistory, History, clock};
 ghost use Rattle.pe_rules.specs.Current.{document_in, is_live};

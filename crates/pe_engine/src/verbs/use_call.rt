@@ -1,5 +1,5 @@
 //! `use`: a document makes a call.
-ghost use Rattle.std.specs.Prelude.{◌≡◌, Some, None, IsSome, IfSome};
+ghost use Rattle.std.specs.Prelude.{◌≡◌, None, IsSome, IfSome};
 ghost use Rattle.pe_frames.specs.Forest.{entry_of, with_doc};
 ghost use Rattle.pe_events.specs.declared.event.Event.TheVariants as event;
 ghost use Rattle.pe_rules.specs.History.{History};
