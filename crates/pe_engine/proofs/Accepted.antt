@@ -101,7 +101,7 @@ plain-is (event.Ask frame) h = record { makes = λ i. refl; drops = λ i. refl; 
 plain-is (event.History frame) h = record { makes = λ i. refl; drops = λ i. refl; sets = λ i. refl; dismisses = λ i. refl; ends = λ i. refl }
 plain-is (event.PolicyOf frame feature) h = record { makes = λ i. refl; drops = λ i. refl; sets = λ i. refl; dismisses = λ i. refl; ends = λ i. refl }
 plain-is (event.Features frame) h = record { makes = λ i. refl; drops = λ i. refl; sets = λ i. refl; dismisses = λ i. refl; ends = λ i. refl }
-plain-is (event.UseCall frame call) h = cc
+plain-is (event.UseCall frame call) h = record { makes = λ i. refl; drops = λ i. refl; sets = λ i. refl; dismisses = λ i. refl; ends = λ i. refl }
 plain-is (event.Query frame feature) h = cc
 plain-is (event.DropStatus status) h = cc
 plain-is (event.Request frame feature) h = cc

@@ -27,3 +27,5 @@ pub mod Consumed
 pub mod Deciding
 pub mod Firing
 pub mod Settings
+pub mod Stored
+pub mod Uses

@@ -2,6 +2,7 @@
 #![tactic(auto)]
 
 mod attribute;
+mod decision;
 mod engine;
 mod laws;
 mod leaving;

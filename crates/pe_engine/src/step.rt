@@ -68,10 +68,10 @@ impl Engine {
                 steps,
             ),
             Event::Features { frame } => self.features(now, *frame, steps),
+            Event::UseCall { frame, call } => self.use_call(now, *frame, call.as_slice(), steps),
             Event::Tick => self.tick(now),
             Event::Navigate { .. }
             | Event::Close { .. }
-            | Event::UseCall { .. }
             | Event::Query { .. }
             | Event::DropStatus { .. }
             | Event::Request { .. }

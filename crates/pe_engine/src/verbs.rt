@@ -8,3 +8,4 @@ mod open;
 pub(crate) mod policy;
 mod set;
 mod state;
+mod use_call;
