@@ -25,3 +25,4 @@ pub mod Ended
 pub mod Delivered
 pub mod Consumed
 pub mod Deciding
+pub mod Queried

@@ -119,6 +119,8 @@ impl Engine {
                 self.navigate(now, *frame, url, header, steps)
             }
             Event::Close { frame } => self.close(now, *frame, steps),
+            Event::Query { frame, feature } => self.query(now, *frame, feature.as_slice(), steps),
+            Event::DropStatus { status } => self.drop_status(now, *status, steps),
             Event::OpenPage { .. }
             | Event::Embed { .. }
             | Event::Attr { .. }
@@ -128,8 +130,6 @@ impl Engine {
             | Event::PolicyOf { .. }
             | Event::Features { .. }
             | Event::UseCall { .. }
-            | Event::Query { .. }
-            | Event::DropStatus { .. }
             | Event::Request { .. }
             | Event::Answered { .. }
             | Event::SetState { .. }

@@ -6,4 +6,5 @@ mod input;
 mod navigate;
 mod open;
 pub(crate) mod policy;
+mod query;
 mod state;
