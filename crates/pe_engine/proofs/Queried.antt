@@ -55,12 +55,16 @@ use Rattle.pe_engine.proofs.TopDocuments.{chain-some, top-is}
 
 -- ---- the numbers that were given
 
-pub below-more : (n : ℕ) (ns : List ℕ) → AreBelow n ns → AreBelow (n + 1) ns
+below-more : (n : ℕ) (ns : List ℕ) → AreBelow n ns → AreBelow (n + 1) ns
 below-more n [] b = tt
 below-more n (k ∷ ns) b = ((let z = b.0 in omega arith), below-more n ns b.1)
 
-pub below-noted : (ms : List Made) (m : Made) (ns : List ℕ) → AreBelow (length ms + 1) ns → AreBelow (length (ms ++ m ∷ []) + 1) ns
-below-noted ms m ns b = subst (λ n. AreBelow (n + 1) ns) (sym (length-append ms (m ∷ []))) (below-more (length ms + 1) ns b)
+-- what holds of an engine's numbers, once one event more is noted
+pub noted-invariant : (old new : List Made) (m : Made) (frames : ℕ) (ns : List ℕ) → new ≡ old ++ m ∷ [] → length old < 1000000 → frames ≤ length old + 1 → AreBelow (length old + 1) ns
+    → (length new ≤ 1000000) × (frames ≤ length new) × AreBelow (length new + 1) ns
+noted-invariant old new m frames ns is few within below =
+    let grown : length new ≡ length old + 1 = ap length is ∙ length-append old (m ∷ []) in
+    (omega arith, omega arith, subst (λ k. AreBelow (k + 1) ns) (sym grown) (below-more (length old + 1) ns below))
 
 -- ---- the causes
 
