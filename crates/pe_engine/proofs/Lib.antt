@@ -29,3 +29,4 @@ pub mod Firing
 pub mod Settings
 pub mod Stored
 pub mod Uses
+pub mod Queried

@@ -1,5 +1,5 @@
 -- Lists each of whose elements has a property.
-use Rattle.std.proofs.Common.{◌≡◌, ℕ, Bool, true, false, ◌&&◌, ◌||◌, ◌==◌, List, [], ◌∷◌, map, refl, sym, ◌∙◌, ap, cond, true≢false}
+use Rattle.std.proofs.Common.{◌≡◌, ℕ, Bool, true, false, ◌&&◌, ◌||◌, ◌==◌, List, [], ◌∷◌, ◌++◌, map, refl, sym, ◌∙◌, ap, cond, true≢false}
 use Rattle.std.specs.Prelude.{filter}
 use Rattle.std.specs.List.{list_any}
 use Rattle.std.proofs.lemmas.Bool.Decides.{Decides-eqb}
@@ -66,6 +66,12 @@ module _ {A : Type 0} where
   pub map-left : {B : Type 0} (g : A → B) (change : A → A) (xs : List A) → ((x : A) → g (change x) ≡ g x) → map g (map change xs) ≡ map g xs
   map-left g change [] h = refl
   map-left g change (x ∷ xs) h = rw (h x, map-left g change xs h) refl
+
+-- of two lists one after another
+module _ {A : Type 0} where
+  pub each-append : (P : A → Type 0) (xs ys : List A) → Each P xs → Each P ys → Each P (xs ++ ys)
+  each-append P [] ys g h = h
+  each-append P (x ∷ xs) ys g h = (g.0, each-append P xs ys g.1 h)
 
 or-true : (b : Bool) → (b || true) ≡ true
 or-true true = refl

@@ -126,6 +126,8 @@ impl Engine {
                 state,
                 span,
             } => self.set(now, feature, first, second, *state, *span, steps),
+            Event::Query { frame, feature } => self.query(now, *frame, feature.as_slice(), steps),
+            Event::DropStatus { status } => self.drop_status(now, *status, steps),
             Event::OpenPage { .. }
             | Event::Embed { .. }
             | Event::Attr { .. }
@@ -135,8 +137,6 @@ impl Engine {
             | Event::PolicyOf { .. }
             | Event::Features { .. }
             | Event::UseCall { .. }
-            | Event::Query { .. }
-            | Event::DropStatus { .. }
             | Event::Request { .. }
             | Event::Answered { .. }
             | Event::Post { .. }

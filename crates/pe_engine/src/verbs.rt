@@ -7,5 +7,6 @@ mod navigate;
 mod open;
 pub(crate) mod policy;
 mod set;
+mod query;
 mod state;
 mod use_call;
