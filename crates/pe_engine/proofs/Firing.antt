@@ -17,15 +17,11 @@ use Rattle.pe_engine.specs.Promises.{AreOfLive}
 use Rattle.pe_engine.specs.Replying.{steps_of}
 use Rattle.pe_engine.specs.StandsFor.{EngineValue}
 use Rattle.pe_engine.specs.Stepping.{IsReplyBy, IsReply}
-use Rattle.pe_engine.proofs.Lists.{each-passed, each-kept, each-all}
+use Rattle.pe_engine.proofs.Lists.{each-append, each-passed, each-kept, each-all}
 
 -- the number is that of a live status
 abbrev IsLive : RepliedHistory → ℕ → Type 0
 IsLive T k = IsTrue (list_any (λ (x : Status). x.number == k) (live_statuses T))
-
-each-append : {A : Type 0} (P : A → Type 0) (xs ys : List A) → Each P xs → Each P ys → Each P (xs ++ ys)
-each-append P [] ys h k = k
-each-append P (x ∷ xs) ys h k = (h.0, each-append P xs ys h.1 k)
 
 each-flat : {A B : Type 0} (P : B → Type 0) (Q : A → Type 0) (f : A → List B) (xs : List A) → ((x : A) → Q x → Each P (f x)) → Each Q xs → Each P (flat_map f xs)
 each-flat P Q f [] h q = tt

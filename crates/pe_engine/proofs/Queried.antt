@@ -1,9 +1,8 @@
 -- Permission statuses that are made and dropped.
-use Rattle.std.proofs.Common.{◌≡◌, ℕ, suc, ◌+◌, ◌<◌, ◌≤◌, Bool, true, false, not, nat_le, ◌==◌, List, [], ◌∷◌, ◌++◌, length, Option, Some, None, Ok, IsTrue, is_some, is_none, unwrap_or, option_map, if◌then◌else◌, refl, sym, ◌∙◌, ap, subst, arith, cond, true≢false, length-append}
-use Rattle.std.specs.Prelude.{filter}
+use Rattle.std.proofs.Common.{◌≡◌, ℕ, suc, ◌+◌, ◌<◌, ◌≤◌, Bool, true, false, not, nat_le, ◌==◌, List, [], ◌∷◌, ◌++◌, length, Option, Some, None, Ok, IsTrue, is_some, is_none, unwrap_or, option_map, if◌then◌else◌, refl, sym, ◌∙◌, ap, subst, arith, length-append}
 use Rattle.std.specs.Global.{Vec}
 use Rattle.std.specs.List.{list_any}
-use Rattle.std.proofs.lemmas.Bool.Decides.{Decides-eqb, nat_tests}
+use Rattle.std.proofs.lemmas.Bool.Decides.{Decides-eqb}
 use Rattle.pe_base.specs.declared.limits.TheConstants.{STATUS_LIMIT}
 use Rattle.pe_base.specs.declared.state.State.{State}
 use Rattle.pe_arena.specs.declared.handle.Handle.{Handle}
@@ -20,10 +19,10 @@ use Rattle.pe_events.specs.declared.answer.Change.{Change}
 use Rattle.pe_events.specs.declared.cause.Cause.TheVariants as cause
 use Rattle.pe_events.specs.declared.event.Event.TheVariants as event
 use Rattle.pe_events.specs.Timed.{Timed}
-use Rattle.pe_rules.specs.History.{StepAnswer, Step, RepliedHistory, History}
+use Rattle.pe_rules.specs.History.{Step, RepliedHistory, History}
 use Rattle.pe_rules.specs.Numbering.{is_status}
 use Rattle.pe_rules.specs.Making.{frame_of}
-use Rattle.pe_rules.specs.Embedders.{chain, top_document, page, page_of_frame}
+use Rattle.pe_rules.specs.Embedders.{page, page_of_frame}
 use Rattle.pe_rules.specs.Current.{document_in, is_live}
 use Rattle.pe_rules.specs.PermissionState.{permission_state}
 use Rattle.pe_rules.specs.Settings.{setting_named, setting_by}
@@ -45,7 +44,7 @@ use Rattle.pe_engine.specs.Replying.{timed, HasPassed, IsReplied}
 use Rattle.pe_engine.specs.Rows.{IsRow, IsShown}
 use Rattle.pe_engine.specs.StandsFor.{EngineValue, IsNamed, StandsFor}
 use Rattle.pe_engine.specs.Tree.{IsNode, IsTree}
-use Rattle.pe_engine.proofs.Accepted.{step_of, documents-within, named-stays}
+use Rattle.pe_engine.proofs.Accepted.{step_of, documents-within, named-stays, queues-stay}
 use Rattle.pe_engine.proofs.CommonCauses.{some-of}
 use Rattle.pe_engine.proofs.Kept.{kept-silent}
 use Rattle.pe_engine.proofs.Lists.{each-kept, each-append}
@@ -227,6 +226,7 @@ module _ (laws : EngineLaws) where
       applied-reply laws e p u H x made.Status (answer.StatusMade number state) before after stands passed none says noted (record {
         tree = rw (noted.made, frames) (kept-silent laws.history s T e.made made.Status e.frames refl refl refl refl refl refl refl refl refl refl stands.steps.tree);
         store = subst (IsStore (s ∷ T) now) (sym store) (laws.stores.quiet s T now p.store refl refl refl stored);
+        queues = queues-stay laws e u H x made.Status e.clock refl refl stands prompts messages noted.made;
         statuses = laws.statuses.made e.duration H s r e.statuses u.statuses stands.regular made-by (has.paired T shown.row.settled) (some-injective (page_of_frame T f) (page T has.row.doc) top (page-of T f has.row.doc shown.document) paged)
             stands.steps.statuses live given;
         named = subst (Each (IsNamed (s ∷ T) u.made)) (sym live) (rw noted.made (named-stays laws s T e.made made.Status (e.statuses.live ++ r ∷ [])
@@ -284,6 +284,12 @@ module _ (laws : EngineLaws) where
       store : u.store ≡ p.store
       store = ap (λ (v : EngineValue). v.store) has.rest ∙ ap (λ (v : EngineValue). v.store) n_is
 
+      prompts : u.prompts ≡ e.prompts
+      prompts = ap (λ (v : EngineValue). v.prompts) has.rest ∙ ap (λ (v : EngineValue). v.prompts) n_is ∙ ap (λ (v : EngineValue). v.prompts) p_is
+
+      messages : u.messages ≡ e.messages
+      messages = ap (λ (v : EngineValue). v.messages) has.rest ∙ ap (λ (v : EngineValue). v.messages) n_is ∙ ap (λ (v : EngineValue). v.messages) p_is
+
       before-is : n.statuses ≡ e.statuses
       before-is = ap (λ (v : EngineValue). v.statuses) n_is ∙ ap (λ (v : EngineValue). v.statuses) p_is
 
@@ -304,6 +310,7 @@ module _ (laws : EngineLaws) where
       applied-reply laws e p u H x made.Nothing answer.Done before after stands passed none (sym (drop-answer e.duration T now k)) noted (record {
         tree = rw (noted.made, frames) (kept-silent laws.history s T e.made made.Nothing e.frames refl refl refl refl refl refl refl refl refl refl stands.steps.tree);
         store = subst (IsStore (s ∷ T) now) (sym store) (laws.stores.quiet s T now p.store refl refl refl stored);
+        queues = queues-stay laws e u H x made.Nothing e.clock refl refl stands prompts messages noted.made;
         statuses = subst (IsStatuses (s ∷ T)) (sym statuses) (laws.statuses.dropped s T k e.statuses registry refl stands.steps.statuses live given);
         named = subst (λ (q : Registry). Each (IsNamed (s ∷ T) u.made) q.live) (sym statuses) (subst (Each (IsNamed (s ∷ T) u.made)) (sym live)
             (each-kept (IsNamed (s ∷ T) u.made) (IsNamed (s ∷ T) u.made) (λ r. not (r.no == k)) e.statuses.live (λ r n z. n)
@@ -335,6 +342,12 @@ module _ (laws : EngineLaws) where
 
       store : u.store ≡ p.store
       store = ap (λ (v : EngineValue). v.store) u_is
+
+      prompts : u.prompts ≡ e.prompts
+      prompts = ap (λ (v : EngineValue). v.prompts) u_is ∙ ap (λ (v : EngineValue). v.prompts) p_is
+
+      messages : u.messages ≡ e.messages
+      messages = ap (λ (v : EngineValue). v.messages) u_is ∙ ap (λ (v : EngineValue). v.messages) p_is
 
       statuses : u.statuses ≡ registry
       statuses = ap (λ (v : EngineValue). v.statuses) u_is

@@ -6,7 +6,7 @@ mod input;
 mod navigate;
 mod open;
 pub(crate) mod policy;
-mod set;
 mod query;
+mod set;
 mod state;
 mod use_call;

@@ -1,5 +1,5 @@
 //! `query` and `drop`: the permission statuses that a document asks for.
-ghost use Rattle.std.specs.Prelude.{◌≡◌, IfOk, IfErr, IfSome, IfNone, IsSome, Some, None, false, true, length, option_map};
+ghost use Rattle.std.specs.Prelude.{◌≡◌, IfOk, IfErr, IfSome, IfNone, IsSome, Some, None, false, true, ℕ, length, option_map};
 ghost use Rattle.pe_events.specs.declared.event.Event.TheVariants as event;
 ghost use Rattle.pe_features.specs.Features.{feature_named, key_of};
 ghost use Rattle.pe_frames.specs.Forest.{entry_of};
@@ -14,7 +14,6 @@ ghost use Rattle.pe_engine.specs.Objects.{handle_at};
 ghost use Rattle.pe_engine.specs.Registering.{HasRegistered};
 ghost use Rattle.pe_engine.specs.Replying.{timed, IsReplied};
 ghost use Rattle.pe_engine.specs.StandsFor.{StandsFor};
-ghost use Rattle.std.specs.Prelude.{ℕ};
 
 use crate::engine::{Engine, Made};
 use crate::laws::engine_laws;

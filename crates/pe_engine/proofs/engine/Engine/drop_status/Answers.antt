@@ -1,4 +1,4 @@
-use Rattle.std.proofs.Common.{◌≡◌, [], ◌∷◌, ◌++◌, sym, ◌∙◌, ap}
+use Rattle.std.proofs.Common.{[], ◌∷◌, ◌++◌, ◌∙◌, ap}
 use Rattle.pe_status.specs.Registry.{without}
 use Rattle.pe_events.specs.declared.event.Event.TheVariants as event
 use Rattle.pe_rules.specs.Replies.{replied}

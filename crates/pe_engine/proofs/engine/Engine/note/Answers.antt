@@ -1,4 +1,4 @@
-use Rattle.std.proofs.Common.{◌<◌, ◌≤◌, length, sym, subst, arith}
+use Rattle.std.proofs.Common.{◌<◌, length, sym, subst, arith}
 use Rattle.pe_engine.specs.StandsFor.{EngineValue}
 use Rattle.pe_engine.proofs.Queried.{noted-invariant}
 use Rattle.pe_engine.proofs.engine.Engine.note.Goals as goal

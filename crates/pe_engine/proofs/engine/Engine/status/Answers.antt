@@ -1,8 +1,6 @@
-use Rattle.std.proofs.Common.{◌≡◌, length, Some, None, sym, ◌∙◌, ap, subst, arith}
-use Rattle.std.specs.Result.{result_err}
-use Rattle.pe_status.specs.Registry.{Registry, release_fault}
+use Rattle.std.proofs.Common.{length, Some, sym, ◌∙◌, ap, arith}
+use Rattle.pe_status.specs.Registry.{release_fault}
 use Rattle.pe_rules.specs.Replies.{replied}
-use Rattle.pe_changes.specs.Parts.{IsStatuses}
 use Rattle.pe_engine.specs.StandsFor.{EngineValue}
 use Rattle.pe_engine.proofs.Queried.{beyond-unknown, fault-unknown, fault-closed, fault-none}
 use Rattle.pe_engine.proofs.engine.Engine.status.Goals as goal
