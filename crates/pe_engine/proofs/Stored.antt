@@ -106,70 +106,13 @@ module _ (laws : HistoryLaws) where
 
   -- ---- frames
 
-  known-frame : (T : RepliedHistory) (g : ℕ) (url : List ℕ) (header : Option (List ℕ)) → names_unknown T (event.Navigate g url header) ≡ false → is_frame T g ≡ true
-  unfolding names_unknown
-  known-frame T g url header h = by_test (is_frame T g) h
-    where
-      by_test : (b : Bool) → (not b || false || false) ≡ false → b ≡ true
-      by_test true h = refl
-      by_test false h = sym h
-
-  shown-step : (s : Step) (T : RepliedHistory) (f d : ℕ) → names_unknown T s.event ≡ false → ((x : ℕ) → document_in T f ≡ Some x → is_frame T f ≡ true) → document_in (s ∷ T) f ≡ Some d → is_frame (s ∷ T) f ≡ true
-  shown-step s T f d known older shown = by_document (document_frame s.event (length (s ∷ T))) refl
-    where
-      up : (g : ℕ) → is_frame T g ≡ true → is_frame (s ∷ T) g ≡ true
-      up g was =
-          let within = laws.numbering.frame_within T g was in
-          let most = within.1 in
-          let ne : g ≢ length (s ∷ T) = (λ e. absurd (omega (arith, most, e))) in
-          laws.numbering.is_frame_older s T g ne ∙ was
-
-      by_left : (o : Option ℕ) → document_in T f ≡ o → left_in s T o ≡ Some d → is_frame (s ∷ T) f ≡ true
-      by_left None e h = cc
-      by_left (Some x) e h = up f (older x e)
-
-      own : (e : Event) → s.event ≡ e → names_unknown T e ≡ false → document_frame e (length (s ∷ T)) ≡ Some f → is_frame (s ∷ T) f ≡ true
-      own (event.OpenPage url header) is known h = let i : length (s ∷ T) ≡ f = cc in ap (is_frame (s ∷ T)) (sym i) ∙ laws.numbering.is_frame_newest s T ∙ ap makes_frame is
-      own (event.Embed parent src place allow sandbox fullscreen srcdoc header) is known h = let i : length (s ∷ T) ≡ f = cc in ap (is_frame (s ∷ T)) (sym i) ∙ laws.numbering.is_frame_newest s T ∙ ap makes_frame is
-      own (event.Navigate g url header) is known h = let i : g ≡ f = cc in ap (is_frame (s ∷ T)) (sym i) ∙ up g (known-frame T g url header known)
-      own other is known h = cc
-
-      by_test : (g : ℕ) → document_frame s.event (length (s ∷ T)) ≡ Some g → (b : Bool) → (g == f) ≡ b → is_frame (s ∷ T) f ≡ true
-      by_test g is true q = own s.event refl known (is ∙ ap Some ((Decides-eqb g f).0 q))
-      by_test g is false q = by_left (document_in T f) refl (sym (laws.current.document_in_beside s T f g is (λ e. absurd (true≢false (sym ((Decides-eqb g f).1 e) ∙ q)))) ∙ shown)
-
-      by_document : (o : Option ℕ) → document_frame s.event (length (s ∷ T)) ≡ o → is_frame (s ∷ T) f ≡ true
-      by_document None is = by_left (document_in T f) refl (sym (laws.current.document_in_other s T f is) ∙ shown)
-      by_document (Some g) is = by_test g is (g == f) refl
-
-  accepted-known : (duration : ℕ) (H : History) (x : Timed) → IsTrue (accepts duration H x) → names_unknown (replied duration H) x.event ≡ false
-  unfolding accepts accepts_in
-  accepted-known duration H x accepted = (laws.causes.accepted (replied duration H) x.time x.event (none (cause_of (replied duration H) x.time x.event) accepted)).known
-    where
-      none : {A : Type 0} (o : Option A) → is_none o ≡ true → o ≡ None
-      none None h = refl
-      none (Some y) h = cc
-
-  -- in a regular history a frame that shows a document was made
-  shown-made : (duration : ℕ) (H : History) (f d : ℕ) → IsTrue (is_regular duration H) → document_in (replied duration H) f ≡ Some d → is_frame (replied duration H) f ≡ true
-  shown-made duration [] f d regular shown =
-      let (current, frame, least, within) = laws.current.document_in_frame (replied duration []) f d shown in
-      let none : d ≤ 0 = subst (λ T. d ≤ length T) (laws.steps.told_start duration) within in
-      absurd (omega (arith, least, none))
-  shown-made duration (x ∷ H) f d regular shown =
-      let (was, accepted) = laws.steps.regular_step duration x H regular in
-      let told = laws.steps.told_step duration x H in
-      subst (λ T. is_frame T f ≡ true) (sym told)
-      (shown-step (step_of x (step_answer duration (replied duration H) x.time x.event)) (replied duration H) f d (accepted-known duration H x accepted)
-      (λ y h. shown-made duration H f y was h) (subst (λ T. document_in T f ≡ Some d) told shown))
-
   -- a number without a handle is that of no frame that shows a document
   pub unmade-shows-none : (e : EngineValue) (H : History) (f : ℕ) → StandsFor e H → handle_at e.made f ≡ None → document_in (replied e.duration H) f ≡ None
   unmade-shows-none e H f s none = by_document (document_in (replied e.duration H) f) refl
     where
       by_document : (o : Option ℕ) → document_in (replied e.duration H) f ≡ o → o ≡ None
       by_document None is = refl
-      by_document (Some d) is = absurd (true≢false (sym (shown-made e.duration H f d s.regular is) ∙ no-handle laws (replied e.duration H) e.made e.frames f s.steps.tree none))
+      by_document (Some d) is = absurd (true≢false (sym (laws.current.live_is_frame e.duration H f s.regular (shows-one (replied e.duration H) f d is)) ∙ no-handle laws (replied e.duration H) e.made e.frames f s.steps.tree none))
 
   -- nor is one whose handle is not live
   pub closed-shows-none : (e : EngineValue) (H : History) (f : ℕ) (h : Handle) → StandsFor e H → handle_at e.made f ≡ Some h → entry_of e.frames.entries h ≡ None → document_in (replied e.duration H) f ≡ None
