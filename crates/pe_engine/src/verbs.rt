@@ -6,4 +6,6 @@ mod input;
 mod navigate;
 mod open;
 pub(crate) mod policy;
+mod prompt;
+mod query;
 mod state;
