@@ -25,3 +25,7 @@ pub mod Ended
 pub mod Delivered
 pub mod Consumed
 pub mod Deciding
+pub mod Firing
+pub mod Settings
+pub mod Stored
+pub mod Uses

@@ -15,3 +15,4 @@ pub mod Laws
 pub mod Leaving
 pub mod Deciding
 pub mod Prompting
+pub mod Using

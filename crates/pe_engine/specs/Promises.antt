@@ -1,15 +1,19 @@
--- What an answer to `policy` says of the documents from the page's top one down to the one that is asked for.
+-- What an answer to `policy` says of the documents from the page's top one down to the one that is asked for, and what change lines name.
 -- Permissions Policy, "define an inherited policy for feature in container at origin", "is feature enabled in document for origin".
 -- Each test is by the header that its document was made with, and by the attributes that stood in its element then.
-use Rattle.std.specs.Prelude.{◌≡◌, ◌⊎◌, ℕ, true, false, List, [], ◌∷◌, Some, None}
+use Rattle.std.specs.Prelude.{◌≡◌, ◌⊎◌, ℕ, true, false, ◌==◌, List, [], ◌∷◌, Some, None, IsTrue}
+use Rattle.std.specs.List.{list_any}
 use Rattle.pe_base.specs.declared.denial.Denial.{Denial}
 use Rattle.pe_features.specs.declared.feature.Feature.{Feature}
 use Rattle.pe_features.specs.Features.{feature_named}
 use Rattle.pe_policy.specs.Links.{ChainDocument, pair_test, own_test}
+use Rattle.pe_events.specs.declared.answer.Change.{Change}
 use Rattle.pe_rules.specs.History.{RepliedHistory}
 use Rattle.pe_rules.specs.Current.{document_in}
 use Rattle.pe_rules.specs.Denials.{chain_documents}
 use Rattle.pe_rules.specs.InheritedPolicy.{inherited, is_enabled}
+use Rattle.pe_rules.specs.Statuses.{live_statuses}
+use Rattle.pe_laws.specs.StatusesLaws.{Each}
 
 -- no test fails between an embedder and the document below it, nor that of the last document's own header
 abbrev pub NoTestFails : Feature → List ChainDocument → Type 0
@@ -45,3 +49,7 @@ IsAllowedIn T frame name = (d : ℕ) × (f : Feature) × IsAskedFor T frame name
 -- the feature of this name is denied in the document that the frame shows, for this reason
 abbrev pub IsDeniedIn : RepliedHistory → ℕ → List ℕ → Denial → Type 0
 IsDeniedIn T frame name why = (d : ℕ) × (f : Feature) × IsAskedFor T frame name d f × IsDeniedBelow T d f why
+
+-- each change names a status that is live
+abbrev pub AreOfLive : RepliedHistory → List Change → Type 0
+AreOfLive T changes = Each (λ c. IsTrue (list_any (λ x. x.number == c.status) (live_statuses T))) changes

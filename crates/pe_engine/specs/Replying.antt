@@ -36,6 +36,7 @@ is_plain (event.Ask frame) = true
 is_plain (event.History frame) = true
 is_plain (event.PolicyOf frame feature) = true
 is_plain (event.Features frame) = true
+is_plain (event.UseCall frame call) = true
 is_plain event.Tick = true
 is_plain other = false
 

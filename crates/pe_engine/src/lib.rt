@@ -2,6 +2,7 @@
 #![tactic(auto)]
 
 mod attribute;
+mod decision;
 mod engine;
 mod laws;
 mod leaving;
@@ -17,3 +18,6 @@ mod verdict;
 
 pub use engine::Engine;
 pub use replies::Replies;
+
+#[cfg(test)]
+mod tests;

@@ -1,11 +1,11 @@
 //! One event after another.
-ghost use Rattle.std.specs.Prelude.{◌≡◌, ℕ, List, true, false, IfOk, IsOkAnd, Err, OnOk, OnErr, []};
+ghost use Rattle.std.specs.Prelude.{◌≡◌, ℕ, List, true, false, IfOk, IsOkAnd, Err, OnOk, OnErr, [], ◌∷◌};
 ghost use Rattle.pe_base.specs.declared.denial.Denial.{Denial};
 ghost use Rattle.pe_events.specs.declared.answer.Answer.TheVariants as answer;
 ghost use Rattle.pe_events.specs.declared.cause.Cause.TheVariants as cause;
 ghost use Rattle.pe_events.specs.declared.event.Event.TheVariants as event;
 ghost use Rattle.pe_events.specs.declared.reason.Reason.TheVariants as reason;
-ghost use Rattle.pe_engine.specs.Promises.{IsAllowedIn, IsDeniedIn};
+ghost use Rattle.pe_engine.specs.Promises.{IsAllowedIn, IsDeniedIn, AreOfLive};
 ghost use Rattle.pe_engine.specs.Replying.{timed, steps_of, is_plain, IsAnswer, IsReplied};
 ghost use Rattle.pe_engine.specs.Stepping.{is_answered, IsReply, IsSyntaxRefusal};
 ghost use Rattle.pe_engine.specs.declared.refusal.Refusal.TheVariants as refusal;
@@ -68,10 +68,10 @@ impl Engine {
                 steps,
             ),
             Event::Features { frame } => self.features(now, *frame, steps),
+            Event::UseCall { frame, call } => self.use_call(now, *frame, call.as_slice(), steps),
             Event::Tick => self.tick(now),
             Event::Navigate { .. }
             | Event::Close { .. }
-            | Event::UseCall { .. }
             | Event::Query { .. }
             | Event::DropStatus { .. }
             | Event::Request { .. }
@@ -119,6 +119,13 @@ impl Engine {
                 self.navigate(now, *frame, url, header, steps)
             }
             Event::Close { frame } => self.close(now, *frame, steps),
+            Event::SetState {
+                feature,
+                first,
+                second,
+                state,
+                span,
+            } => self.set(now, feature, first, second, *state, *span, steps),
             Event::OpenPage { .. }
             | Event::Embed { .. }
             | Event::Attr { .. }
@@ -132,7 +139,6 @@ impl Engine {
             | Event::DropStatus { .. }
             | Event::Request { .. }
             | Event::Answered { .. }
-            | Event::SetState { .. }
             | Event::Post { .. }
             | Event::Deliver { .. }
             | Event::Tick => self.reply_after_time(stamped, steps),
@@ -188,6 +194,12 @@ impl Engine {
         ensures other { self.old.failed ≡ false → is_answered stamped.now.event ≡ false → IsOkAnd result (λ r. IsSyntaxRefusal r × (self.new ≡ self.old)) }
         ensures once_failed { self.old.failed ≡ true → OnOk result ⊥ × (self.new ≡ self.old) }
         ensures fails { OnErr result (self.new.failed ≡ true) }
+
+        // Each change names a status that is live: one that the time brings before the event, and one that
+        // the event brings before it and, where it is accepted, after it.
+        ensures before { (H : History) → StandsFor self.old H → is_answered stamped.now.event ≡ true → IfOk result (λ r. AreOfLive (steps_of self.old H) r.before.items) }
+        ensures after { (H : History) → StandsFor self.old H → is_answered stamped.now.event ≡ true
+            → IfOk result (λ r. AreOfLive (steps_of self.old H) r.after.items × AreOfLive (steps_of self.old (timed stamped.now.time stamped.now.event ∷ H)) r.after.items) }
 
         // What the policy's answers say of each document from the page's top one down.
         ensures allowed { (H : History) (frame : ℕ) (name : List ℕ) → StandsFor self.old H → stamped.now.event ≡ event.PolicyOf frame name

@@ -8,4 +8,6 @@ mod open;
 pub(crate) mod policy;
 mod prompt;
 mod query;
+mod set;
 mod state;
+mod use_call;

@@ -1,3 +1,5 @@
+use Rattle.pe_engine.specs.Replying.{timed}
+use Rattle.pe_engine.proofs.Firing.{clause-before, clause-after}
 use Rattle.pe_engine.proofs.Promised.{clause-allowed, clause-denied}
 use Rattle.pe_engine.proofs.engine.Engine.step.Goals as goal
 
@@ -8,3 +10,11 @@ returns-clause-allowed g c = λ H frame name s is.
 pub returns-clause-denied : goal.returns-clause-denied
 returns-clause-denied g c = λ H frame name why s is.
     clause-denied c.engine_laws.ensures.history c.reply.result c.args.self.now c.reply.new.self H c.args.stamped.now.time c.args.stamped.now.event frame name why is (c.reply.ensures.replied H s)
+
+pub returns-clause-before : goal.returns-clause-before
+returns-clause-before g c = λ H s built.
+    clause-before c.reply.result c.args.self.now c.reply.new.self H (timed c.args.stamped.now.time c.args.stamped.now.event) (c.reply.ensures.replied H s built)
+
+pub returns-clause-after : goal.returns-clause-after
+returns-clause-after g c = λ H s built.
+    clause-after c.reply.result c.args.self.now c.reply.new.self H (timed c.args.stamped.now.time c.args.stamped.now.event) (c.reply.ensures.replied H s built)
