@@ -29,3 +29,5 @@ pub mod Firing
 pub mod Settings
 pub mod Stored
 pub mod Uses
+pub mod Queried
+pub mod Prompted

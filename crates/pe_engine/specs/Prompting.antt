@@ -1,11 +1,12 @@
 -- What a request asks for, and what an answer to a prompt does.
 -- Permissions, "request permission to use"; the embargo is this project's own.
-use Rattle.std.specs.Prelude.{◌≡◌, ℕ, List, [], ◌∷◌, ◌++◌, Option, Some, None, option_map}
+use Rattle.std.specs.Prelude.{◌≡◌, ℕ, List, [], ◌∷◌, ◌++◌, ◌≢◌, Option, Some, None, IfSome, option_map}
 use Rattle.pe_base.specs.declared.state.State.{State}
 use Rattle.pe_arena.specs.declared.handle.DocRef.{DocRef}
 use Rattle.pe_features.specs.declared.feature.Feature.{Feature}
 use Rattle.pe_store.specs.declared.key.Key.{Key}
 use Rattle.pe_store.specs.declared.key.Life.{Life}
+use Rattle.pe_store.specs.declared.key.Life.TheVariants as life
 use Rattle.pe_store.specs.Pairs.{Pair}
 use Rattle.pe_prompts.specs.declared.queue.Prompt.{Prompt}
 use Rattle.pe_prompts.specs.Queues.{pending_of, asked_of, HasAsked}
@@ -44,7 +45,8 @@ pub record HasPrompted (old new : EngineValue) (now number page : ℕ) (pair : P
 abbrev pub setting_for : Pair → State × Life → Setting
 setting_for pair x = record { pair = pair; state = x.0; life = x.1 }
 
--- an answer at this time sets this for the pair of its prompt, or nothing
+-- an answer at this time sets this for the pair of its prompt, or nothing; what it sets holds at the time at least
 pub record IsDecided (T : RepliedHistory) (now k : ℕ) (out : Outcome) (given : EventLife) (pair : Pair) (set : Option (State × Life)) : Type 0 where
   pub pair_is : prompt_pair T k ≡ Some pair
   pub setting : setting_by now (event.Answered k out given) T ≡ option_map (setting_for pair) set
+  pub lasts : IfSome set (λ x. x.1 ≢ life.Until 0)

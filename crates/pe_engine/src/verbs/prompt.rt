@@ -1,23 +1,24 @@
 //! `request` and `answer`: prompts for a permission.
-ghost use Rattle.std.specs.Prelude.{◌≡◌, ◌+◌, ◌<◌, ◌≤◌, ◌++◌, ◌∷◌, ◌&&◌, [], ℕ, List, nat_le, Some, None, IfOk, IfSome, IfNone, IsSome, IsTrue, OnOk, false, is_some, is_none, length, option_map};
-ghost use Rattle.pe_base.specs.declared.limits.TheConstants.{EVENT_LIMIT, PENDING_LIMIT};
-ghost use Rattle.pe_base.specs.declared.state.State.TheVariants as state;
+ghost use Rattle.std.specs.Prelude.{◌≡◌, ◌+◌, ◌<◌, ◌≤◌, ◌++◌, ◌∷◌, ◌&&◌, [], ℕ, List, nat_le, Some, None, IfOk, IfErr, IsSome, IsTrue, OnOk, not, is_some, is_none, length, option_map};
+ghost use Rattle.pe_base.specs.declared.limits.TheConstants.{EVENT_LIMIT, PENDING_LIMIT, STORE_LIMIT};
+ghost use Rattle.pe_base.specs.declared.state.State.{State};
+ghost use Rattle.pe_store.specs.declared.key.Life.{Life};
 ghost use Rattle.pe_events.specs.declared.event.Event.TheVariants as event;
-ghost use Rattle.pe_events.specs.Fitting.{is_life};
+ghost use Rattle.pe_events.specs.Fitting.{is_fitting, is_life};
 ghost use Rattle.pe_features.specs.Features.{feature_named, key_of};
 ghost use Rattle.pe_frames.specs.Forest.{entry_of};
 ghost use Rattle.pe_prompts.specs.Pending.{pair_of};
 ghost use Rattle.pe_prompts.specs.Queues.{pending, pending_of, prompt_at};
-ghost use Rattle.pe_requests.specs.PromptSteps.{IsAsking, AreBelow, answer_of_asked};
+ghost use Rattle.pe_requests.specs.PromptSteps.{IsAsking, answer_of_asked};
 ghost use Rattle.pe_changes.specs.Parts.{IsStore, IsStatuses, AreGoverned};
 ghost use Rattle.pe_changes.specs.StoreSteps.{IsSet, IsDismissed};
-ghost use Rattle.pe_rules.specs.Causes.{is_prompt_state};
+ghost use Rattle.pe_rules.specs.Causes.{entries, is_prompt_state};
 ghost use Rattle.pe_rules.specs.Changes.{changes_after};
 ghost use Rattle.pe_rules.specs.Current.{document_in};
 ghost use Rattle.pe_rules.specs.History.{History, RepliedHistory, Step};
 ghost use Rattle.pe_rules.specs.PermissionState.{permission_state};
 ghost use Rattle.pe_rules.specs.Replies.{state_replied};
-ghost use Rattle.pe_rules.specs.Settings.{life_of_answer, is_undecided, embargo_for, stored_state, setting_by, holds};
+ghost use Rattle.pe_rules.specs.Settings.{life_of_answer, is_undecided, embargo_for, stored_state, setting_by, holds, has_entry};
 ghost use Rattle.pe_engine.specs.Causes.{named_cause};
 ghost use Rattle.pe_engine.specs.Objects.{handle_at};
 ghost use Rattle.pe_engine.specs.Prompting.{made_by_request, setting_for, HasPrompted, IsDecided};
@@ -337,7 +338,140 @@ impl Engine {
             Err(AnswerFault::Settled) => Err(Cause::Settled),
             Err(AnswerFault::Closed) => Err(Cause::Closed),
             Err(AnswerFault::NotShown) => Err(Cause::NotShown),
-            Err(AnswerFault::Unknown) | Err(AnswerFault::Memory) => Err(Cause::Unknown),
+            Err(AnswerFault::Unknown) => Err(Cause::Unknown),
+            Err(AnswerFault::Memory) => Err(Cause::Unknown),
         }
+    }
+    /// Whether what an answer decides for a pair would make an entry in a store of as many as there may
+    /// be.
+    fn exceeds_by<L: Ledger>(
+        &self,
+        feature: Feature,
+        key: &Key,
+        decided: Option<(State, Life)>,
+        steps: &mut Steps<L>,
+    ) -> bool
+        ensures { (H : History) → StandsFor self.now H
+            → result ≡ (is_some decided && (not (has_entry (steps_of self.now H) (feature, key.now)) && nat_le STORE_LIMIT (length (entries (steps_of self.now H))))) }
+    {
+        match decided {
+            Some(_) => self.exceeds_store(feature, key, steps),
+            None => false,
+        }
+    }
+
+    /// What an answer at this time to the prompt of this number decides, or the first cause against it.
+    fn check_answer<L: Ledger>(
+        &self,
+        now: Millis,
+        number: u32,
+        outcome: Outcome,
+        life: EventLife,
+        steps: &mut Steps<L>,
+    ) -> Result<Decision, Refusal>
+        requires { IsTrue (is_life outcome life) }
+        ensures checked { (H : History) → StandsFor self.now H → IsChecked self.now H (timed now (event.Answered number outcome life)) result }
+        ensures decided { (H : History) → StandsFor self.now H → IfOk result (λ d. IsDecided (steps_of self.now H) now number outcome life (d.feature, d.key) d.set) }
+        ensures number { IfOk result (λ d. d.prompt ≡ number) }
+        ensures late { OnOk result (self.now.clock ≤ now) }
+        ensures few { OnOk result (length self.now.made < EVENT_LIMIT) }
+    {
+        engine_laws();
+        self.next(now)?;
+        let asked = match self.shown(number) {
+            Ok(asked) => asked,
+            Err(cause) => return Err(Refusal::For(cause)),
+        };
+        let set = self.decided(asked, outcome, life, now, steps);
+        if self.exceeds_by(asked.feature, &asked.key, set, steps) {
+            return Err(Refusal::For(Cause::LimitStore));
+        }
+        let key = asked.key.copy()?;
+        Ok(Decision {
+            prompt: PromptNo::of(number),
+            feature: asked.feature,
+            key,
+            set,
+        })
+    }
+
+    /// Sets what an answer at this time decided for its pair, or counts the dismissal. The changes are
+    /// those that the setting brings.
+    fn store_decided<L: Ledger>(
+        &mut self,
+        feature: Feature,
+        key: Key,
+        decided: Option<(State, Life)>,
+        now: Millis,
+        steps: &mut Steps<L>,
+    ) -> Result<Vec<Change>, AllocError>
+        ensures rest { OnOk result (self.new ≡ record self.old { store = self.new.store }) }
+        ensures set { (x : State × Life) → decided ≡ Some x → OnOk result (IsSet (setting_for (feature, key) x) self.old.store self.new.store) }
+        ensures dismissed { decided ≡ None → OnOk result (IsDismissed (feature, key) now self.old.store self.new.store) }
+        ensures changes { (T : RepliedHistory) (s : Step) (x : State × Life) → decided ≡ Some x → setting_by s.time s.event T ≡ Some (setting_for (feature, key) x) → IsTrue (holds (s ∷ T) now x.1)
+            → IsStore T now self.old.store → IsStatuses T self.old.statuses → AreGoverned T (λ y. y.doc) blocks self.old.frames.entries self.old.statuses.live
+            → IfOk result (λ changes. changes.items ≡ changes_after T (s ∷ T) now) }
+        ensures none { decided ≡ None → IfOk result (λ changes. changes.items ≡ []) }
+    {
+        let Some((state, life)) = decided else {
+            return match self.store.dismissed(feature, key, now) {
+                Ok(_) => Ok(Vec::new(self.alloc)),
+                Err(_) => Err(AllocError),
+            };
+        };
+        let after = changes_of_setting(
+            self.alloc,
+            &self.store,
+            &self.statuses,
+            &self.frames,
+            feature,
+            &key,
+            state,
+            now,
+            steps,
+        )?;
+        match self.store.set(feature, key, state, life) {
+            Ok(()) => Ok(after),
+            Err(_) => Err(AllocError),
+        }
+    }
+
+    /// Answers the shown prompt of this number (Permissions, "request permission to use"): it is settled,
+    /// and what the user chose is set for its pair, or the dismissal is counted.
+    pub(crate) fn answer_prompt<L: Ledger>(
+        &mut self,
+        now: Millis,
+        number: u32,
+        outcome: Outcome,
+        life: EventLife,
+        steps: &mut Steps<L>,
+    ) -> Result<Replies, Refusal>
+        requires fitting { IsTrue (is_fitting (event.Answered number outcome life)) }
+        ensures { (H : History) → StandsFor self.old H → IsReplied self.old self.new H (timed now (event.Answered number outcome life)) result }
+    {
+        engine_laws();
+        let decision = match self.check_answer(now, number, outcome, life, steps) {
+            Ok(decision) => decision,
+            Err(refusal) => return Err(refusal),
+        };
+        let before = self.pass(now, steps)?;
+        let after = self.store_decided(decision.feature, decision.key, decision.set, now, steps)?;
+        let Ok(requests) = self.prompts.answer(decision.prompt) else {
+            return Err(Refusal::Memory);
+        };
+        // So many requests have no room in memory.
+        if requests.len() > u32::MAX as usize {
+            return Err(Refusal::Memory);
+        }
+        let count = requests.len() as u32;
+        self.note(now, Made::Nothing)?;
+        Ok(Replies {
+            before,
+            answer: Answer::Settled {
+                count,
+                state: state_replied(outcome),
+            },
+            after,
+        })
     }
 }
