@@ -4,10 +4,12 @@ use Rattle.std.specs.Prelude.{IfSome}
 use Rattle.std.specs.Option.{option_or}
 use Rattle.std.specs.Global.{Vec}
 use Rattle.std.proofs.lemmas.Bool.Decides.{nat_tests}
-use Rattle.pe_base.specs.declared.limits.TheConstants.{TIME_LIMIT, STORE_LIMIT, EMBARGO_DISMISSALS, EMBARGO_SPAN}
+use Rattle.pe_base.specs.declared.limits.TheConstants.{TIME_LIMIT, STORE_LIMIT, PENDING_LIMIT, EMBARGO_DISMISSALS, EMBARGO_SPAN}
 use Rattle.pe_base.specs.declared.state.State.{State}
 use Rattle.pe_base.specs.declared.state.State.TheVariants as state
 use Rattle.pe_arena.specs.declared.handle.DocRef.{DocRef}
+use Rattle.pe_features.specs.declared.feature.Feature.{Feature}
+use Rattle.pe_store.specs.declared.key.Key.{Key}
 use Rattle.pe_store.specs.declared.key.Life.{Life}
 use Rattle.pe_store.specs.declared.key.Life.TheVariants as lives
 use Rattle.pe_store.specs.Entries as store
@@ -17,7 +19,7 @@ use Rattle.pe_prompts.specs.declared.queue.Prompt.{Prompt}
 use Rattle.pe_prompts.specs.declared.fault.AnswerFault.{AnswerFault}
 use Rattle.pe_prompts.specs.declared.fault.AnswerFault.TheVariants as fault
 use Rattle.pe_prompts.specs.declared.given.Given.{Given}
-use Rattle.pe_prompts.specs.Pending.{Pending, prompt_in, is_first}
+use Rattle.pe_prompts.specs.Pending.{Pending, prompt_in, is_first, pair_of}
 use Rattle.pe_prompts.specs.Queues as queue
 use Rattle.pe_prompts.specs.Queues.{Queues, HasSettled}
 use Rattle.pe_events.specs.declared.answer.Answer.{Answer}
@@ -36,15 +38,16 @@ use Rattle.pe_rules.specs.History.{StepAnswer, Step, RepliedHistory, History, so
 use Rattle.pe_rules.specs.Numbering.{is_prompt}
 use Rattle.pe_rules.specs.Current.{document_in}
 use Rattle.pe_rules.specs.Settings.{Setting, prompt_pair, prompt_page, life_of_answer, setting_named, setting_by, holds, is_undecided, counts, embargo, embargo_for, dismissals, stored_state, has_entry}
-use Rattle.pe_rules.specs.Causes.{cause_of, entries, lacks_key, names_unknown, has_bad_url, has_bad_feature, has_bad_call, has_bad_capability, names_other_page, exceeds_pages, exceeds_depth, exceeds_frames, exceeds_statuses, exceeds_pending, exceeds_store}
+use Rattle.pe_rules.specs.Causes.{cause_of, entries, lacks_key, is_prompt_state, names_unknown, has_bad_url, has_bad_feature, has_bad_call, has_bad_capability, names_other_page, exceeds_pages, exceeds_depth, exceeds_frames, exceeds_statuses, exceeds_pending, exceeds_store}
 use Rattle.pe_rules.specs.Changes.{changes_after}
-use Rattle.pe_rules.specs.Replies.{answer_of, replied, step_answer}
+use Rattle.pe_rules.specs.PermissionState.{permission_state}
+use Rattle.pe_rules.specs.Replies.{answer_of_request, answer_of, replied, step_answer}
 use Rattle.pe_laws.specs.HistoryLaws.{HistoryLaws}
 use Rattle.pe_changes.specs.Parts.{IsStore, IsStatuses, AreGoverned}
 use Rattle.pe_changes.specs.StoreSteps.{IsSet, IsDismissed}
 use Rattle.pe_messages.specs.Parts.{IsMessages, AreAddressed}
 use Rattle.pe_requests.specs.Parts.{IsPrompts}
-use Rattle.pe_requests.specs.PromptSteps.{first_named_cause, cause_of_fault}
+use Rattle.pe_requests.specs.PromptSteps.{first_named_cause, cause_of_fault, IsAsking, answer_of_asked}
 use Rattle.pe_engine.specs.declared.engine.Made.{Made}
 use Rattle.pe_engine.specs.declared.engine.Made.TheVariants as made
 use Rattle.pe_engine.specs.declared.row.Row.{Row}
@@ -52,7 +55,7 @@ use Rattle.pe_engine.specs.Causes.{named_cause, other_cause}
 use Rattle.pe_engine.specs.Changing.{HasNoted}
 use Rattle.pe_engine.specs.Laws.{EngineLaws}
 use Rattle.pe_engine.specs.Objects.{handle_in, handle_at}
-use Rattle.pe_engine.specs.Prompting.{setting_for, IsDecided}
+use Rattle.pe_engine.specs.Prompting.{made_by_request, asked_by, setting_for, HasAnswered, IsDecided}
 use Rattle.pe_engine.specs.Replying.{timed, HasPassed, IsReplied}
 use Rattle.pe_engine.specs.Rows.{blocks}
 use Rattle.pe_engine.specs.StandsFor.{EngineValue, StandsFor}
@@ -206,6 +209,48 @@ module _ (laws : HistoryLaws) where
   stored-now e H now pair s late =
       stored-later laws (replied e.duration H) now e.store pair (subst (λ t. t ≤ now) s.steps.clock late) (subst (λ t. IsStore (replied e.duration H) t e.store) s.steps.clock s.steps.store)
 
+-- what an answer decides, by its outcome
+module _ (laws : EngineLaws) where
+  pub decided-allow : (e : EngineValue) (H : History) (now k : ℕ) (life : EventLife) (p : Prompt) (lasting : Life) → StandsFor e H → queue.prompt_at e.prompts k ≡ Some p → is_life outcome.Allow life ≡ true
+      → lasting ≡ life_of_answer now life (document_in (replied e.duration H) p.page) → IsDecided (replied e.duration H) now k outcome.Allow life (pair_of p) (Some (state.Granted, lasting))
+  decided-allow e H now k life p lasting s at fits is =
+      let T = replied e.duration H in
+      let pending = laws.prompts.asked T e.prompts k p s.steps.prompts at in
+      let shown = laws.prompts.page_shown e.duration H e.prompts k p s.regular s.steps.prompts at in record {
+        pair_is = pending.pair;
+        setting = allow-sets T now k life (pair_of p) p.page pending.pair pending.page ∙ ap (λ l. Some (setting_for (pair_of p) (state.Granted, l))) (sym is);
+        lasts = λ q. life-lasts now life (document_in T p.page) fits shown (sym is ∙ q);
+      }
+
+  pub decided-block : (e : EngineValue) (H : History) (now k : ℕ) (life : EventLife) (p : Prompt) (lasting : Life) → StandsFor e H → queue.prompt_at e.prompts k ≡ Some p → is_life outcome.Allow life ≡ true
+      → lasting ≡ life_of_answer now life (document_in (replied e.duration H) p.page) → IsDecided (replied e.duration H) now k outcome.Block life (pair_of p) (Some (state.Denied, lasting))
+  decided-block e H now k life p lasting s at fits is =
+      let T = replied e.duration H in
+      let pending = laws.prompts.asked T e.prompts k p s.steps.prompts at in
+      let shown = laws.prompts.page_shown e.duration H e.prompts k p s.regular s.steps.prompts at in record {
+        pair_is = pending.pair;
+        setting = block-sets T now k life (pair_of p) p.page pending.pair pending.page ∙ ap (λ l. Some (setting_for (pair_of p) (state.Denied, l))) (sym is);
+        lasts = λ q. life-lasts now life (document_in T p.page) fits shown (sym is ∙ q);
+      }
+
+  pub decided-none : (e : EngineValue) (H : History) (now k : ℕ) (life : EventLife) (p : Prompt) → StandsFor e H → queue.prompt_at e.prompts k ≡ Some p → is_some (embargo_for now (replied e.duration H) (pair_of p)) ≡ false
+      → IsDecided (replied e.duration H) now k outcome.Dismiss life (pair_of p) None
+  decided-none e H now k life p s at none =
+      let pending = laws.prompts.asked (replied e.duration H) e.prompts k p s.steps.prompts at in record {
+        pair_is = pending.pair;
+        setting = dismiss-none laws.history (replied e.duration H) now k life (pair_of p) pending.pair none;
+        lasts = tt;
+      }
+
+  pub decided-embargo : (e : EngineValue) (H : History) (now k : ℕ) (life : EventLife) (p : Prompt) → StandsFor e H → queue.prompt_at e.prompts k ≡ Some p → is_some (embargo_for now (replied e.duration H) (pair_of p)) ≡ true
+      → IsDecided (replied e.duration H) now k outcome.Dismiss life (pair_of p) (Some (state.Denied, lives.Until (now + EMBARGO_SPAN)))
+  decided-embargo e H now k life p s at some =
+      let pending = laws.prompts.asked (replied e.duration H) e.prompts k p s.steps.prompts at in record {
+        pair_is = pending.pair;
+        setting = dismiss-sets laws.history (replied e.duration H) now k life (pair_of p) pending.pair some;
+        lasts = λ q. let ended : now + EMBARGO_SPAN ≡ 0 = cc in absurd (omega (arith, ended));
+      }
+
 -- ---- what was applied
 
 -- the engine before, once the time has passed, and once it has this store and these prompts and what the event made is noted
@@ -275,6 +320,55 @@ module _ (laws : EngineLaws) where
 
       s : Step
       s = step_of x (step_answer e.duration T now x.event)
+
+  -- whether it would make a prompt beyond the limit
+  pub pending-is : (e : EngineValue) (H : History) (now f : ℕ) (name : List ℕ) (found : State) (page : ℕ) (feature : Feature) (key : Key) (asker : DocRef) → StandsFor e H
+      → IsAsking (replied e.duration H) f name asker.doc page (feature, key) → found ≡ permission_state (replied e.duration H) now asker.doc feature
+      → exceeds_pending (replied e.duration H) now (event.Request f name)
+      ≡ (is_prompt_state (Some found) && (is_none (queue.pending_of e.prompts page (feature, key)) && nat_le PENDING_LIMIT (length (queue.pending e.prompts page))))
+  pending-is e H now f name found page feature key asker s asks is =
+      laws.prompts.exceeds (replied e.duration H) e.prompts now f name asker.doc page (feature, key) s.steps.prompts asks
+      ∙ ap (λ x. is_prompt_state (Some x) && (is_none (queue.pending_of e.prompts page (feature, key)) && nat_le PENDING_LIMIT (length (queue.pending e.prompts page)))) (sym is)
+
+  -- it tells the state that it found, or it is put to a prompt
+  frameless : (o : Option ℕ) → handle_in (made_by_request o) ≡ None
+  frameless None = refl
+  frameless (Some k) = refl
+
+  pub request-told : (e p u : EngineValue) (H : History) (now f : ℕ) (name : List ℕ) (number : ℕ) (found : State) (page : ℕ) (feature : Feature) (key : Key) (asker : DocRef) (said : Answer) (before after : Vec Change)
+      → StandsFor e H → HasPassed e p H now before → p ≡ record e { store = p.store } → HasAnswered found p u now number page (feature, key) asker said
+      → cause_of (replied e.duration H) now (event.Request f name) ≡ None → IsAsking (replied e.duration H) f name asker.doc page (feature, key) → found ≡ permission_state (replied e.duration H) now asker.doc feature
+      → number ≡ length e.made + 1 → after.items ≡ []
+      → IsReplied e u H (timed now (event.Request f name)) (Ok (record { before = before; answer = said; after = after }))
+  request-told e p u H now f name number found page feature key asker said before after stands passed p_is answered none asks found_is number_is empty = by_state found refl answered
+    where
+      T : RepliedHistory
+      T = replied e.duration H
+
+      prompts : IsPrompts T p.prompts
+      prompts = subst (IsPrompts T) (sym (ap (λ (w : EngineValue). w.prompts) p_is)) stands.steps.prompts
+
+      numbered : number ≡ length T + 1
+      numbered = number_is ∙ ap (λ n. n + 1) stands.steps.tree.count
+
+      told : (x : State) → found ≡ x → answer_of e.duration T now (event.Request f name) ≡ answer_of_request x (length T + 1) (queue.pending_of p.prompts page (feature, key))
+      told x is =
+          laws.prompts.requests e.duration T p.prompts now f name asker.doc page (feature, key) prompts asks
+          ∙ ap (λ y. answer_of_request y (length T + 1) (queue.pending_of p.prompts page (feature, key))) (sym found_is ∙ is)
+
+      by_state : (x : State) → found ≡ x → HasAnswered x p u now number page (feature, key) asker said → IsReplied e u H (timed now (event.Request f name)) (Ok (record { before = before; answer = said; after = after }))
+      by_state state.Granted is has =
+          request-reply e p u H now f name made.Nothing p.prompts said before after stands passed (has-applied e p u now made.Nothing p.store p.prompts p_is has.1) refl none (has.0 ∙ sym (told state.Granted is))
+          (laws.prompts.stated e.duration H (timed now (event.Request f name)) f name state.Granted p.prompts refl (told state.Granted is) prompts) empty
+      by_state state.Denied is has =
+          request-reply e p u H now f name made.Nothing p.prompts said before after stands passed (has-applied e p u now made.Nothing p.store p.prompts p_is has.1) refl none (has.0 ∙ sym (told state.Denied is))
+          (laws.prompts.stated e.duration H (timed now (event.Request f name)) f name state.Denied p.prompts refl (told state.Denied is) prompts) empty
+      by_state state.Prompt is has =
+          let join = queue.pending_of p.prompts page (feature, key) in
+          let says : answer_of e.duration T now (event.Request f name) ≡ answer_of_asked (queue.asked_of number join) =
+          laws.prompts.asks e.duration T p.prompts now f name asker.doc page (feature, key) prompts asks (sym found_is ∙ is) ∙ ap (λ n. answer_of_asked (queue.asked_of n join)) (sym numbered) in
+          request-reply e p u H now f name (made_by_request join) u.prompts said before after stands passed (has-applied e p u now (made_by_request join) p.store u.prompts p_is has.rest) (frameless join) none (has.says ∙ sym says)
+          (laws.prompts.told e.duration H (timed now (event.Request f name)) f name (asked_by page (feature, key) asker) asker (queue.asked_of number join) p.prompts u.prompts stands.regular refl asks refl says prompts has.asked) empty
 
   -- ---- an answer
 

@@ -2,6 +2,7 @@
 -- Permissions, "request permission to use"; the embargo is this project's own.
 use Rattle.std.specs.Prelude.{◌≡◌, ℕ, List, [], ◌∷◌, ◌++◌, ◌≢◌, Option, Some, None, IfSome, option_map}
 use Rattle.pe_base.specs.declared.state.State.{State}
+use Rattle.pe_base.specs.declared.state.State.TheVariants as state
 use Rattle.pe_arena.specs.declared.handle.DocRef.{DocRef}
 use Rattle.pe_features.specs.declared.feature.Feature.{Feature}
 use Rattle.pe_store.specs.declared.key.Key.{Key}
@@ -11,6 +12,7 @@ use Rattle.pe_store.specs.Pairs.{Pair}
 use Rattle.pe_prompts.specs.declared.queue.Prompt.{Prompt}
 use Rattle.pe_prompts.specs.Queues.{pending_of, asked_of, HasAsked}
 use Rattle.pe_events.specs.declared.answer.Answer.{Answer}
+use Rattle.pe_events.specs.declared.answer.Answer.TheVariants as answer
 use Rattle.pe_events.specs.declared.event.Event.TheVariants as event
 use Rattle.pe_events.specs.declared.event.EventLife.{EventLife}
 use Rattle.pe_events.specs.declared.event.Outcome.{Outcome}
@@ -38,6 +40,11 @@ pub record HasPrompted (old new : EngineValue) (now number page : ℕ) (pair : P
   pub rest : new ≡ record old { clock = now; made = old.made ++ made_by_request (pending_of old.prompts page pair) ∷ []; prompts = new.prompts }
   pub asked : HasAsked old.prompts new.prompts (asked_by page pair asker) asker (asked_of number (pending_of old.prompts page pair))
   pub says : said ≡ answer_of_asked (asked_of number (pending_of old.prompts page pair))
+
+-- a request was answered that found this state: it is told, or the request was put to a prompt
+abbrev pub HasAnswered : State → EngineValue → EngineValue → ℕ → ℕ → ℕ → Pair → DocRef → Answer → Type 0
+HasAnswered state.Prompt old new now number page pair asker said = HasPrompted old new now number page pair asker said
+HasAnswered found old new now number page pair asker said = (said ≡ answer.Stated found) × (new ≡ record old { clock = now; made = old.made ++ made.Nothing ∷ [] })
 
 -- ---- answers
 

@@ -3,7 +3,9 @@ ghost use Rattle.std.specs.Prelude.{◌≡◌, ◌+◌, ◌<◌, ◌≤◌, ◌+
 ghost use Rattle.pe_base.specs.declared.limits.TheConstants.{EVENT_LIMIT, PENDING_LIMIT, STORE_LIMIT};
 ghost use Rattle.pe_base.specs.declared.state.State.{State};
 ghost use Rattle.pe_store.specs.declared.key.Life.{Life};
+ghost use Rattle.pe_events.specs.declared.answer.Answer.TheVariants as answer;
 ghost use Rattle.pe_events.specs.declared.event.Event.TheVariants as event;
+ghost use Rattle.pe_engine.specs.declared.engine.Made.TheVariants as made;
 ghost use Rattle.pe_events.specs.Fitting.{is_fitting, is_life};
 ghost use Rattle.pe_features.specs.Features.{feature_named, key_of};
 ghost use Rattle.pe_frames.specs.Forest.{entry_of};
@@ -21,7 +23,7 @@ ghost use Rattle.pe_rules.specs.Replies.{state_replied};
 ghost use Rattle.pe_rules.specs.Settings.{life_of_answer, is_undecided, embargo_for, stored_state, setting_by, holds, has_entry};
 ghost use Rattle.pe_engine.specs.Causes.{named_cause};
 ghost use Rattle.pe_engine.specs.Objects.{handle_at};
-ghost use Rattle.pe_engine.specs.Prompting.{made_by_request, setting_for, HasPrompted, IsDecided};
+ghost use Rattle.pe_engine.specs.Prompting.{made_by_request, setting_for, HasPrompted, HasAnswered, IsDecided};
 ghost use Rattle.pe_engine.specs.Replying.{steps_of, timed, IsChecked, IsReplied};
 ghost use Rattle.pe_engine.specs.Rows.{blocks};
 ghost use Rattle.pe_engine.specs.StandsFor.{StandsFor};
@@ -155,6 +157,7 @@ impl Engine {
     ) -> Result<Asking, AllocError>
         requires live { IsSome (entry_of self.now.frames.entries h) }
         requires keyed { IsSome (key_of feature) }
+        ensures feature { IfOk result (λ a. a.feature ≡ feature) }
         ensures asks { (H : History) (f : ℕ) (name : List ℕ) → StandsFor self.now H → handle_at self.now.made f ≡ Some h → feature_named name ≡ Some feature
             → IfOk result (λ a. IsAsking (steps_of self.now H) f name a.asker.doc a.page (a.feature, a.key)) }
         ensures state { (H : History) (f : ℕ) → StandsFor self.now H → self.now.clock ≤ now → handle_at self.now.made f ≡ Some h
@@ -180,7 +183,7 @@ impl Engine {
 
     /// Whether a request would make a prompt in a page of as many pending ones as there may be.
     fn exceeds_pending(&self, asking: &Asking) -> bool
-        ensures { result ≡ (is_prompt_state (Some asking.now.state) && is_none (pending_of self.now.prompts asking.now.page (asking.now.feature, asking.now.key)) && nat_le PENDING_LIMIT (length (pending self.now.prompts asking.now.page))) }
+        ensures { result ≡ (is_prompt_state (Some asking.now.state) && (is_none (pending_of self.now.prompts asking.now.page (asking.now.feature, asking.now.key)) && nat_le PENDING_LIMIT (length (pending self.now.prompts asking.now.page)))) }
     {
         match asking.state {
             State::Prompt => {
@@ -222,6 +225,35 @@ impl Engine {
         }
     }
 
+    /// Answers a request that found this state, which is not prompt.
+    fn state_found(&mut self, now: Millis, state: State) -> Result<Answer, AllocError>
+        requires few { length self.old.made < EVENT_LIMIT }
+        ensures answer { IfOk result (λ said. said ≡ answer.Stated state) }
+        ensures noted { OnOk result (self.new ≡ record self.old { clock = now; made = self.old.made ++ made.Nothing ∷ [] }) }
+    {
+        self.note(now, Made::Nothing)?;
+        Ok(Answer::Stated { state })
+    }
+
+    /// Answers a request at this time by the state that it found, or, where that is prompt, by the prompt
+    /// of this number that it makes, or the one that it joins.
+    fn answer_request(
+        &mut self,
+        now: Millis,
+        number: PromptNo,
+        asking: Asking,
+    ) -> Result<Answer, AllocError>
+        requires number { number ≡ length self.old.made + 1 }
+        requires few { length self.old.made < EVENT_LIMIT }
+        ensures { IfOk result (HasAnswered asking.state self.old self.new now number asking.page (asking.feature, asking.key) asking.asker) }
+    {
+        match asking.state {
+            State::Prompt => self.ask(now, number, asking),
+            State::Granted => self.state_found(now, State::Granted),
+            State::Denied => self.state_found(now, State::Denied),
+        }
+    }
+
     /// Requests a permission for the document of the frame of this number (Permissions, "request
     /// permission to use").
     pub(crate) fn request<L: Ledger>(
@@ -243,13 +275,7 @@ impl Engine {
             return Err(Refusal::For(Cause::LimitPending));
         }
         let before = self.pass(now, steps)?;
-        let answer = match asking.state {
-            State::Prompt => self.ask(now, PromptNo::of(number), asking)?,
-            state => {
-                self.note(now, Made::Nothing)?;
-                Answer::Stated { state }
-            }
-        };
+        let answer = self.answer_request(now, PromptNo::of(number), asking)?;
         Ok(Replies {
             before,
             answer,
@@ -348,11 +374,11 @@ impl Engine {
         &self,
         feature: Feature,
         key: &Key,
-        decided: Option<(State, Life)>,
+        decided: &Option<(State, Life)>,
         steps: &mut Steps<L>,
     ) -> bool
         ensures { (H : History) → StandsFor self.now H
-            → result ≡ (is_some decided && (not (has_entry (steps_of self.now H) (feature, key.now)) && nat_le STORE_LIMIT (length (entries (steps_of self.now H))))) }
+            → result ≡ (is_some decided.now && (not (has_entry (steps_of self.now H) (feature, key.now)) && nat_le STORE_LIMIT (length (entries (steps_of self.now H))))) }
     {
         match decided {
             Some(_) => self.exceeds_store(feature, key, steps),
@@ -383,7 +409,7 @@ impl Engine {
             Err(cause) => return Err(Refusal::For(cause)),
         };
         let set = self.decided(asked, outcome, life, now, steps);
-        if self.exceeds_by(asked.feature, &asked.key, set, steps) {
+        if self.exceeds_by(asked.feature, &asked.key, &set, steps) {
             return Err(Refusal::For(Cause::LimitStore));
         }
         let key = asked.key.copy()?;
@@ -450,13 +476,18 @@ impl Engine {
         ensures { (H : History) → StandsFor self.old H → IsReplied self.old self.new H (timed now (event.Answered number outcome life)) result }
     {
         engine_laws();
-        let decision = match self.check_answer(now, number, outcome, life, steps) {
+        let Decision {
+            prompt,
+            feature,
+            key,
+            set,
+        } = match self.check_answer(now, number, outcome, life, steps) {
             Ok(decision) => decision,
             Err(refusal) => return Err(refusal),
         };
         let before = self.pass(now, steps)?;
-        let after = self.store_decided(decision.feature, decision.key, decision.set, now, steps)?;
-        let Ok(requests) = self.prompts.answer(decision.prompt) else {
+        let after = self.store_decided(feature, key, set, now, steps)?;
+        let Ok(requests) = self.prompts.answer(prompt) else {
             return Err(Refusal::Memory);
         };
         // So many requests have no room in memory.
