@@ -325,10 +325,10 @@ module _ (laws : EngineLaws) where
   pub pending-is : (e : EngineValue) (H : History) (now f : ℕ) (name : List ℕ) (found : State) (page : ℕ) (feature : Feature) (key : Key) (asker : DocRef) → StandsFor e H
       → IsAsking (replied e.duration H) f name asker.doc page (feature, key) → found ≡ permission_state (replied e.duration H) now asker.doc feature
       → exceeds_pending (replied e.duration H) now (event.Request f name)
-      ≡ (is_prompt_state (Some found) && (is_none (queue.pending_of e.prompts page (feature, key)) && nat_le PENDING_LIMIT (length (queue.pending e.prompts page))))
+      ≡ (is_prompt_state (Some found) && is_none (queue.pending_of e.prompts page (feature, key)) && nat_le PENDING_LIMIT (length (queue.pending e.prompts page)))
   pending-is e H now f name found page feature key asker s asks is =
       laws.prompts.exceeds (replied e.duration H) e.prompts now f name asker.doc page (feature, key) s.steps.prompts asks
-      ∙ ap (λ x. is_prompt_state (Some x) && (is_none (queue.pending_of e.prompts page (feature, key)) && nat_le PENDING_LIMIT (length (queue.pending e.prompts page)))) (sym is)
+      ∙ ap (λ x. is_prompt_state (Some x) && is_none (queue.pending_of e.prompts page (feature, key)) && nat_le PENDING_LIMIT (length (queue.pending e.prompts page))) (sym is)
 
   -- it tells the state that it found, or it is put to a prompt
   frameless : (o : Option ℕ) → handle_in (made_by_request o) ≡ None

@@ -183,7 +183,7 @@ impl Engine {
 
     /// Whether a request would make a prompt in a page of as many pending ones as there may be.
     fn exceeds_pending(&self, asking: &Asking) -> bool
-        ensures { result ≡ (is_prompt_state (Some asking.now.state) && (is_none (pending_of self.now.prompts asking.now.page (asking.now.feature, asking.now.key)) && nat_le PENDING_LIMIT (length (pending self.now.prompts asking.now.page)))) }
+        ensures { result ≡ (is_prompt_state (Some asking.now.state) && is_none (pending_of self.now.prompts asking.now.page (asking.now.feature, asking.now.key)) && nat_le PENDING_LIMIT (length (pending self.now.prompts asking.now.page))) }
     {
         match asking.state {
             State::Prompt => {
