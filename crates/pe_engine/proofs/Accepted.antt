@@ -173,18 +173,26 @@ plain-idle other h = refl
 module _ (laws : EngineLaws) where
   -- ---- prompts and messages that stay
 
-  -- the messages, and the handles of their documents
+  -- the messages, and the handles of their documents, where nothing is posted and nothing delivered
+  pub messages-left : (e u : EngineValue) (H : History) (x : Timed) (m : Made) (moment : ℕ) → (effects x.event (step_answer e.duration (replied e.duration H) x.time x.event)).posts ≡ false
+      → (effects x.event (step_answer e.duration (replied e.duration H) x.time x.event)).settles_message ≡ false
+      → StandsForAt e H moment → u.messages ≡ e.messages → u.made ≡ e.made ++ m ∷ []
+      → IsMessages (step_of x (step_answer e.duration (replied e.duration H) x.time x.event) ∷ replied e.duration H) u.messages
+      × AreAddressed (step_of x (step_answer e.duration (replied e.duration H) x.time x.event) ∷ replied e.duration H) (handle_at u.made) u.messages.waiting
+  messages-left e u H x m moment posts settles stands messages made =
+      let T = replied e.duration H in
+      let s = step_of x (step_answer e.duration T x.time x.event) in (
+        subst (IsMessages (s ∷ T)) (sym messages) (laws.messages.quiet e.duration H x e.messages posts settles stands.steps.messages),
+        rw (messages, made) (laws.messages.addressed_quiet s T (handle_at e.made) (handle_at (e.made ++ m ∷ [])) e.messages stands.steps.messages (grows e.made m) stands.steps.addressed),
+      )
+
   pub messages-stay : (e u : EngineValue) (H : History) (x : Timed) (m : Made) (moment : ℕ) → is_idle x.event ≡ true → StandsForAt e H moment → u.messages ≡ e.messages → u.made ≡ e.made ++ m ∷ []
       → IsMessages (step_of x (step_answer e.duration (replied e.duration H) x.time x.event) ∷ replied e.duration H) u.messages
       × AreAddressed (step_of x (step_answer e.duration (replied e.duration H) x.time x.event) ∷ replied e.duration H) (handle_at u.made) u.messages.waiting
   messages-stay e u H x m moment idle stands messages made =
-      let T = replied e.duration H in
-      let item = step_answer e.duration T x.time x.event in
-      let s = step_of x item in
-      let quiet = idle-is x.event idle in (
-        subst (IsMessages (s ∷ T)) (sym messages) (laws.messages.quiet e.duration H x e.messages (quiet.posts item) (quiet.delivers item) stands.steps.messages),
-        rw (messages, made) (laws.messages.addressed_quiet s T (handle_at e.made) (handle_at (e.made ++ m ∷ [])) e.messages stands.steps.messages (grows e.made m) stands.steps.addressed),
-      )
+      let quiet = idle-is x.event idle in
+      let item = step_answer e.duration (replied e.duration H) x.time x.event in
+      messages-left e u H x m moment (quiet.posts item) (quiet.delivers item) stands messages made
 
   -- both, where no document ends
   pub queues-stay : (e u : EngineValue) (H : History) (x : Timed) (m : Made) (moment : ℕ) → is_idle x.event ≡ true → (effects x.event (step_answer e.duration (replied e.duration H) x.time x.event)).ends_documents ≡ false

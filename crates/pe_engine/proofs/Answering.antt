@@ -12,7 +12,7 @@ use Rattle.pe_engine.specs.declared.refusal.Refusal.{Refusal}
 use Rattle.pe_engine.specs.declared.refusal.Refusal.TheVariants as refusal
 use Rattle.pe_engine.specs.declared.replies.Replies.{Replies}
 use Rattle.pe_engine.specs.Giving.{GivesPlace}
-use Rattle.pe_engine.specs.Replying.{steps_of, IsAnswer, IsReplied}
+use Rattle.pe_engine.specs.Replying.{steps_of, IsAnswer, IsReplied, IsChecked}
 use Rattle.pe_engine.specs.StandsFor.{EngineValue}
 
 -- a refusal for a cause
@@ -35,6 +35,17 @@ replied-for old H e why (Err x) is first = subst (λ y. IsReplied old old H e (E
 pub replied-memory : (old new : EngineValue) (H : History) (e : Timed) (r : Result Replies Refusal) → IsErrAnd r (λ x. x ≡ refusal.Memory) → IsReplied old new H e r
 replied-memory old new H e (Ok reply) is = absurd is
 replied-memory old new H e (Err x) is = subst (λ y. IsReplied old new H e (Err y)) (sym is) tt
+
+-- and of what was looked up
+pub checked-for : {A : Type 0} (engine : EngineValue) (H : History) (e : Timed) (why : Cause) (r : Result A Refusal) → IsErrAnd r (λ x. x ≡ refusal.For why)
+    → cause_of (steps_of engine H) e.time e.event ≡ Some why → IsChecked {A = A} engine H e r
+checked-for engine H e why (Ok found) is first = absurd is
+checked-for {A} engine H e why (Err x) is first = subst (λ y. IsChecked {A = A} engine H e (Err y)) (sym is) first
+
+-- a reply to what was refused when it was looked up
+pub replied-checked : (A : Type 0) (old : EngineValue) (H : History) (e : Timed) (r : Refusal) → IsChecked {A = A} old H e (Err r) → IsReplied old old H e (Err r)
+replied-checked A old H e (refusal.For why) first = record { first = first; kept = refl }
+replied-checked A old H e refusal.Memory first = tt
 
 -- a refused word
 pub replied-place : (old : EngineValue) (H : History) (e : Timed) (url : List ℕ) (r : Refusal) → GivesPlace url (Err r)

@@ -30,3 +30,4 @@ pub mod Settings
 pub mod Stored
 pub mod Uses
 pub mod Queried
+pub mod Prompted

@@ -14,5 +14,6 @@ pub mod Promises
 pub mod Laws
 pub mod Leaving
 pub mod Deciding
+pub mod Prompting
 pub mod Using
 pub mod Registering

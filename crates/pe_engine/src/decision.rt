@@ -24,7 +24,7 @@ use pe_store::{Entry, Life, Store};
 use std::sync::ledger::Ledger;
 
 /// The state that an entry of the store gives at a time: its own, unless its life ended by then.
-fn state_at(entry: &Entry, now: Millis) -> Option<State>
+pub(crate) fn state_at(entry: &Entry, now: Millis) -> Option<State>
     ensures { result ≡ state_at now entry.now }
 {
     if let Life::Until(end) = entry.life {

@@ -6,6 +6,7 @@ mod input;
 mod navigate;
 mod open;
 pub(crate) mod policy;
+mod prompt;
 mod query;
 mod set;
 mod state;

@@ -51,7 +51,7 @@ asker-of : (k n d : ℕ) (s : Step) (T : RepliedHistory) → prompt_replied s.it
 asker-of k n d s T told asker = rw (told, asker) refl
 
 -- the answer tells of a prompt that was joined
-joined-is : (x : State) (m n : ℕ) (o : Option ℕ) → answer_of_request x m o ≡ answer.PromptJoined n → o ≡ Some n
+pub joined-is : (x : State) (m n : ℕ) (o : Option ℕ) → answer_of_request x m o ≡ answer.PromptJoined n → o ≡ Some n
 joined-is state.Granted m n o h = cc
 joined-is state.Denied m n o h = cc
 joined-is state.Prompt m n None h = cc
@@ -59,7 +59,7 @@ joined-is state.Prompt m n (Some j) h = cc
 
 -- ---- the pending prompts of a page are of that page
 
-pending-of-page : (T : RepliedHistory) (top : ℕ) → Each (λ k. is_prompt_of T top k ≡ true) (pending T top)
+pub pending-of-page : (T : RepliedHistory) (top : ℕ) → Each (λ k. is_prompt_of T top k ≡ true) (pending T top)
 unfolding pending
 pending-of-page T top =
     each-weaker (λ k. (is_pending T k && is_prompt_of T top k) ≡ true) (λ k. is_prompt_of T top k ≡ true) (pending T top) (λ k h. second (is_pending T k) (is_prompt_of T top k) h)

@@ -7,3 +7,4 @@ pub mod Reading
 pub mod Going
 pub mod Leaving
 pub mod Asking
+pub mod Shown

@@ -121,6 +121,9 @@ pub record PromptSteps : Type 0 where
   pub below_answered : (number k : ℕ) (old new : Queues) → HasSettled old new k → AreBelow number old → AreBelow number new
   -- a pending prompt has the page, the pair and the documents of its number
   pub asked : (T : RepliedHistory) (queues : Queues) (k : ℕ) (p : Prompt) → IsPrompts T queues → queue.prompt_at queues k ≡ Some p → IsPendingPrompt T k p
+  -- in a regular history the top frame of its page shows a document
+  pub page_shown : (duration : ℕ) (H : History) (queues : Queues) (k : ℕ) (p : Prompt) → IsTrue (is_regular duration H) → IsPrompts (replied duration H) queues
+      → queue.prompt_at queues k ≡ Some p → IsSome (document_in (replied duration H) p.page)
   -- an event that answers it is answered with the number of its requests
   pub settles : (duration : ℕ) (T : RepliedHistory) (now : ℕ) (queues : Queues) (k : ℕ) (out : Outcome) (life : EventLife) (requests : List DocRef) → IsPrompts T queues
       → option_map (λ (p : Prompt). p.waiting) (queue.prompt_at queues k) ≡ Some requests

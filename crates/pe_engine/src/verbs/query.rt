@@ -30,7 +30,7 @@ use std::alloc::AllocError;
 use std::sync::ledger::Ledger;
 
 /// The feature of this name, where it has a permission (Permissions, "powerful feature").
-fn powerful(name: &[u8]) -> Option<Feature>
+pub(crate) fn powerful(name: &[u8]) -> Option<Feature>
     ensures named { IfSome result (λ f. feature_named name.now ≡ Some f) }
     ensures keyed { IfSome result (λ f. IsSome (key_of f)) }
     ensures some { IfSome result (λ f. lacks_key name.now ≡ false) }
@@ -43,7 +43,7 @@ fn powerful(name: &[u8]) -> Option<Feature>
 
 impl Engine {
     /// The page of a live frame: its top frame.
-    fn page_of<L: Ledger>(&self, h: Handle, steps: &mut Steps<L>) -> FrameNo
+    pub(crate) fn page_of<L: Ledger>(&self, h: Handle, steps: &mut Steps<L>) -> FrameNo
         requires live { IsSome (entry_of self.now.frames.entries h) }
         ensures { (H : History) (f : ℕ) → StandsFor self.now H → handle_at self.now.made f ≡ Some h → page_of_frame (replied self.now.duration H) f ≡ Some result }
     {
@@ -56,7 +56,7 @@ impl Engine {
     }
 
     /// The state that is stored for a pair.
-    fn stored<L: Ledger>(&self, feature: Feature, key: &Key, steps: &mut Steps<L>) -> Option<State>
+    pub(crate) fn stored<L: Ledger>(&self, feature: Feature, key: &Key, steps: &mut Steps<L>) -> Option<State>
         ensures { result ≡ option_map (λ e. e.state) (store.entry_of self.now.store.entries (feature, key.now)) }
     {
         let entry = self.store.get(feature, key, steps)?;

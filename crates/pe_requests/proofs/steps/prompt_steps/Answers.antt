@@ -4,6 +4,7 @@ use Rattle.pe_requests.proofs.Reading.{below, below-told, below-answered, asked,
 use Rattle.pe_requests.proofs.Going.{start, quiet, answered}
 use Rattle.pe_requests.proofs.Asking.{stated, told}
 use Rattle.pe_requests.proofs.Leaving.{ended, ends-frame}
+use Rattle.pe_requests.proofs.Shown.{page-shown}
 use Rattle.pe_requests.proofs.steps.prompt_steps.Goals as goal
 
 pub returns : goal.returns
@@ -19,6 +20,7 @@ returns c = let laws = c.history_laws.ensures in record {
   below_told = below-told;
   below_answered = below-answered;
   asked = asked;
+  page_shown = page-shown laws;
   settles = settles;
   requests = requests;
   asks = asks;
