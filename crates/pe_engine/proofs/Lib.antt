@@ -25,3 +25,7 @@ pub mod Ended
 pub mod Delivered
 pub mod Consumed
 pub mod Deciding
+pub mod Targets
+pub mod Messaging
+pub mod Posting
+pub mod Delivering

@@ -14,3 +14,4 @@ pub mod Promises
 pub mod Laws
 pub mod Leaving
 pub mod Deciding
+pub mod Posting

@@ -18,6 +18,8 @@ use Rattle.pe_engine.specs.StandsFor.{EngineValue}
 abbrev pub is_answered : Event → Bool
 is_answered (event.Navigate frame url header) = true
 is_answered (event.Close frame) = true
+is_answered (event.Post sender target named capability) = true
+is_answered (event.Deliver message) = true
 is_answered other = is_plain other
 
 -- the event is refused for this cause, without a change, and the engine is as before

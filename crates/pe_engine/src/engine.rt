@@ -48,15 +48,16 @@ pub struct Engine {
 }
 
 impl Model for Engine {
-    ghost use Rattle.std.specs.Prelude.{◌≤◌, length};
+    ghost use Rattle.std.specs.Prelude.{◌≡◌, ◌≤◌, ◌<◌, ◌+◌, ℕ, true, length};
     ghost use Rattle.pe_base.specs.declared.limits.TheConstants.{EVENT_LIMIT};
+    ghost use Rattle.pe_delegation.specs.Posted.{was_given};
     ghost use Rattle.pe_engine.specs.StandsFor.{EngineValue};
 
     ghost Value = { EngineValue };
 
     ghost view = { λ e. record { duration = e.duration; clock = e.clock; failed = e.failed; made = e.made.items; frames = e.frames; store = e.store; statuses = e.statuses; prompts = e.prompts; messages = e.messages } };
 
-    ghost invariant = { λ e. (length e.made.items ≤ EVENT_LIMIT) × (e.frames.made ≤ length e.made.items) };
+    ghost invariant = { λ e. (length e.made.items ≤ EVENT_LIMIT) × (e.frames.made ≤ length e.made.items) × ((k : ℕ) → was_given e.messages.given k ≡ true → k < length e.made.items + 1) };
 }
 
 impl Engine {

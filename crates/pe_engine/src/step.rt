@@ -119,6 +119,20 @@ impl Engine {
                 self.navigate(now, *frame, url, header, steps)
             }
             Event::Close { frame } => self.close(now, *frame, steps),
+            Event::Post {
+                sender,
+                target,
+                origin,
+                capability,
+            } => self.post(
+                now,
+                *sender,
+                *target,
+                origin,
+                capability.as_slice(),
+                steps,
+            ),
+            Event::Deliver { message } => self.deliver(now, *message, steps),
             Event::OpenPage { .. }
             | Event::Embed { .. }
             | Event::Attr { .. }
@@ -133,8 +147,6 @@ impl Engine {
             | Event::Request { .. }
             | Event::Answered { .. }
             | Event::SetState { .. }
-            | Event::Post { .. }
-            | Event::Deliver { .. }
             | Event::Tick => self.reply_after_time(stamped, steps),
         }
     }

@@ -23,6 +23,8 @@ is_built_event (event.Ask frame) = true
 is_built_event (event.History frame) = true
 is_built_event (event.PolicyOf frame feature) = true
 is_built_event (event.Features frame) = true
+is_built_event (event.Post sender target named capability) = true
+is_built_event (event.Deliver message) = true
 is_built_event event.Tick = true
 is_built_event e = false
 
