@@ -90,11 +90,11 @@ module _ (laws : HistoryLaws) where
       by_entry (Some e) here is = by_number e here (e.doc.doc == x.target.doc) refl is
 
 module _ (laws : EngineLaws) where
-  pub deliver-reply : (e p w u : EngineValue) (H : History) (now m no : ℕ) (delivery : Delivery) (before after : Vec Change) → StandsFor e H → HasPassed e p H now before → p ≡ record e { store = p.store }
-      → no ≡ m → HasSettled p w no now delivery → u ≡ record w { clock = now; made = w.made ++ made.Nothing ∷ [] }
+  pub deliver-reply : (e p w u : EngineValue) (H : History) (now m number : ℕ) (delivery : Delivery) (before after : Vec Change) → StandsFor e H → HasPassed e p H now before → p ≡ record e { store = p.store }
+      → number ≡ m → HasSettled p w number now delivery → u ≡ record w { clock = now; made = w.made ++ made.Nothing ∷ [] }
       → cause_of (replied e.duration H) now (event.Deliver m) ≡ None → after.items ≡ []
       → IsReplied e u H (timed now (event.Deliver m)) (Ok (record { before = before; answer = answer_by_delivery delivery; after = after }))
-  deliver-reply e p w u H now m no delivery before after stands passed p_is same settled u_is none empty =
+  deliver-reply e p w u H now m number delivery before after stands passed p_is same settled u_is none empty =
       message-reply laws e p u H (timed now (event.Deliver m)) made.Nothing w.frames w.messages (answer_by_delivery delivery) before after refl stands passed p_is
       (u_is ∙ ap (λ (v : EngineValue). record v { clock = now; made = v.made ++ made.Nothing ∷ [] }) settled.rest) none (sym says)
       (subst (λ a. IsTree (step_of (timed now (event.Deliver m)) (Replied a) ∷ T) (e.made ++ made.Nothing ∷ []) w.frames) (sym says)
@@ -115,14 +115,14 @@ module _ (laws : EngineLaws) where
       messages = ap (λ (v : EngineValue). v.messages) p_is
 
       comes : Some delivery ≡ option_map (λ y. delivery_to y (origin_in e.frames.entries y.target)) (message_of e.messages.waiting m)
-      comes = settled.comes ∙ ap (λ (v : EngineValue). option_map (delivery_of (λ (y : Row). y.doc) (λ (y : Row). y.origin) v.frames.entries) (message_of v.messages.waiting no)) p_is
+      comes = settled.comes ∙ ap (λ (v : EngineValue). option_map (delivery_of (λ (y : Row). y.doc) (λ (y : Row). y.origin) v.frames.entries) (message_of v.messages.waiting number)) p_is
           ∙ ap (λ k. option_map (delivery_of (λ (y : Row). y.doc) (λ (y : Row). y.origin) e.frames.entries) (message_of e.messages.waiting k)) same
 
       waits : (x : Message) × (message_of e.messages.waiting m ≡ Some x) × (delivery ≡ delivery_to x (origin_in e.frames.entries x.target))
       waits = some-of-map (λ y. delivery_to y (origin_in e.frames.entries y.target)) (message_of e.messages.waiting m) delivery comes
 
       waiting : w.messages.waiting ≡ without m e.messages.waiting
-      waiting = settled.waiting ∙ ap (λ (q : Posted). without no q.waiting) messages ∙ ap (λ k. without k e.messages.waiting) same
+      waiting = settled.waiting ∙ ap (λ (q : Posted). without number q.waiting) messages ∙ ap (λ k. without k e.messages.waiting) same
 
       shown : AreShown T (origin_in e.frames.entries) e.messages.waiting
       shown = laws.messages.shown T (handle_at e.made) (origin_in e.frames.entries) e.messages.waiting (shows-origins laws.history e.duration H e.made e.frames stands.regular stands.steps.tree) stands.steps.addressed

@@ -4,6 +4,7 @@ use Rattle.std.specs.Option.{option_or}
 use Rattle.std.specs.Global.{Vec}
 use Rattle.pe_base.specs.declared.limits.TheConstants.{MESSAGE_LIMIT}
 use Rattle.pe_base.specs.declared.denial.Denial.{Denial}
+use Rattle.pe_base.specs.Activation.{is_transient}
 use Rattle.pe_arena.specs.declared.handle.Handle.{Handle}
 use Rattle.pe_features.specs.declared.capability.Capability.{Capability}
 use Rattle.pe_features.specs.Capabilities.{capability_named, feature_of}
@@ -40,6 +41,7 @@ use Rattle.pe_engine.specs.Causes.{named_cause, other_cause}
 use Rattle.pe_engine.specs.Laws.{EngineLaws}
 use Rattle.pe_engine.specs.Objects.{handle_at}
 use Rattle.pe_engine.specs.Posting.{GivesOriginOrNone, HasPosted}
+use Rattle.pe_engine.specs.Rows.{IsRow, IsShown}
 use Rattle.pe_engine.specs.Replying.{timed, steps_of, IsChecked, HasPassed, IsReplied}
 use Rattle.pe_engine.specs.StandsFor.{EngineValue, StandsFor}
 use Rattle.pe_engine.specs.Tree.{IsTree}
@@ -170,6 +172,15 @@ pub post-answer : (duration : ℕ) (T : RepliedHistory) (now sender target d : �
     → answer_of duration T now (event.Post sender target named name) ≡ answer_of_post (length T + 1) o
 unfolding answer_of
 post-answer duration T now sender target d named name o shown is = rw (shown, is) refl
+
+-- the row that a frame shows is of the document in it
+pub same-document : (T : RepliedHistory) (f d : ℕ) (x : Row) → IsShown T f x → document_in T f ≡ Some d → x.doc ≡ d
+same-document T f d x is shown = let z : Some x.doc ≡ Some d = sym is.document ∙ shown in cc
+
+-- the transient activation of the document of a row
+pub transient-at : (laws : HistoryLaws) (duration : ℕ) (T : RepliedHistory) (now f d : ℕ) (x : Row) → IsRow T f x → x.doc ≡ d → has_transient duration T now d ≡ is_transient duration now x.stamp
+transient-at laws duration T now f d x is same =
+    subst (λ k. has_transient duration T now k ≡ is_transient duration now x.stamp) same (laws.activation.transient_by_stamp duration T now x.doc ∙ ap (is_transient duration now) (sym is.stamp))
 
 -- the words of a post that names an origin, and of one that names none
 pub word-of : {A : Type 0} (named : Option (List ℕ)) (origin : Option A) (x : A) → origin ≡ Some x → is_some origin ≡ is_some named → (word : List ℕ) × (named ≡ Some word)

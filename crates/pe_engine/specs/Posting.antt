@@ -57,9 +57,9 @@ HasReceived Gone now old new = new ≡ old
 HasReceived OtherOrigin now old new = new ≡ old
 
 -- what comes of delivering the message of this number: it waits no longer
-pub record HasSettled (old new : EngineValue) (no now : ℕ) (delivery : Delivery) : Type 0 where
+pub record HasSettled (old new : EngineValue) (number now : ℕ) (delivery : Delivery) : Type 0 where
   pub rest : new ≡ record old { frames = new.frames; messages = new.messages }
-  pub comes : Some delivery ≡ option_map (delivery_of (λ (x : Row). x.doc) (λ (x : Row). x.origin) old.frames.entries) (message_of old.messages.waiting no)
-  pub waiting : new.messages.waiting ≡ without no old.messages.waiting
+  pub comes : Some delivery ≡ option_map (delivery_of (λ (x : Row). x.doc) (λ (x : Row). x.origin) old.frames.entries) (message_of old.messages.waiting number)
+  pub waiting : new.messages.waiting ≡ without number old.messages.waiting
   pub given : new.messages.given ≡ old.messages.given
   pub received : HasReceived delivery now old.frames new.frames
