@@ -1,5 +1,6 @@
 -- Posts.
 use Rattle.std.proofs.Common.{◌≡◌, ℕ, ◌+◌, ◌<◌, ◌≤◌, Bool, true, false, not, ◌==◌, nat_le, List, [], ◌∷◌, ◌++◌, length, Option, Some, None, Ok, Err, is_some, is_none, option_map, option_and_then, if◌then◌else◌, refl, sym, ◌∙◌, ap, subst}
+use Rattle.std.specs.Prelude.{IsSome}
 use Rattle.std.specs.Option.{option_or}
 use Rattle.std.specs.Global.{Vec}
 use Rattle.pe_base.specs.declared.limits.TheConstants.{MESSAGE_LIMIT}
@@ -46,6 +47,7 @@ use Rattle.pe_engine.specs.Replying.{timed, steps_of, IsChecked, HasPassed, IsRe
 use Rattle.pe_engine.specs.StandsFor.{EngineValue, StandsFor}
 use Rattle.pe_engine.specs.Tree.{IsTree}
 use Rattle.pe_engine.proofs.Accepted.{step_of}
+use Rattle.pe_engine.proofs.CommonCauses.{some-of}
 use Rattle.pe_engine.proofs.Consumed.{kept-post-consumed, kept-post-silent}
 use Rattle.pe_engine.proofs.Handles.{grows}
 use Rattle.pe_engine.proofs.Look.{node-at, live-at, no-handle, page-at, page-of}
@@ -176,6 +178,14 @@ post-answer duration T now sender target d named name o shown is = rw (shown, is
 -- the row that a frame shows is of the document in it
 pub same-document : (T : RepliedHistory) (f d : ℕ) (x : Row) → IsShown T f x → document_in T f ≡ Some d → x.doc ≡ d
 same-document T f d x is shown = let z : Some x.doc ≡ Some d = sym is.document ∙ shown in cc
+
+-- the document of a live frame
+pub sender-shown : (e : EngineValue) (H : History) (f : ℕ) (h : Handle) → StandsFor e H → handle_at e.made f ≡ Some h → IsSome (entry_of e.frames.entries h) → (d : ℕ) × (document_in (replied e.duration H) f ≡ Some d)
+sender-shown e H f h s at live =
+    let T = replied e.duration H in
+    let (y, there) = some-of (entry_of e.frames.entries h) live in
+    let (frame, node) = node-at T e.made e.frames f h y s.steps.tree at there in
+    (y.doc.doc, ap (document_in T) (sym frame) ∙ node.document)
 
 -- the transient activation of the document of a row
 pub transient-at : (laws : HistoryLaws) (duration : ℕ) (T : RepliedHistory) (now f d : ℕ) (x : Row) → IsRow T f x → x.doc ≡ d → has_transient duration T now d ≡ is_transient duration now x.stamp
