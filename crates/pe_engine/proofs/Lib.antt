@@ -31,3 +31,8 @@ pub mod Stored
 pub mod Uses
 pub mod Queried
 pub mod Prompted
+pub mod Targets
+pub mod Messaging
+pub mod Posting
+pub mod Delivering
+pub mod Numbers

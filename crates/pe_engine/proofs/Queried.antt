@@ -13,7 +13,7 @@ use Rattle.pe_frames.specs.Forest.{Entry, Forest, entry_of, node_in, node_of, to
 use Rattle.pe_status.specs.declared.registered.Registered.{Registered}
 use Rattle.pe_status.specs.declared.registered.ReleaseFault.{ReleaseFault}
 use Rattle.pe_status.specs.declared.registered.ReleaseFault.TheVariants as fault
-use Rattle.pe_status.specs.Registry.{Registry, status_of, was_given, count_of_page, release_fault, without, AreBelow}
+use Rattle.pe_status.specs.Registry.{Registry, status_of, was_given, count_of_page, release_fault, without}
 use Rattle.pe_events.specs.declared.answer.Answer.TheVariants as answer
 use Rattle.pe_events.specs.declared.answer.Change.{Change}
 use Rattle.pe_events.specs.declared.cause.Cause.TheVariants as cause
@@ -51,19 +51,6 @@ use Rattle.pe_engine.proofs.Lists.{each-kept, each-append}
 use Rattle.pe_engine.proofs.Look.{node-at, live-at, page-at, page-of}
 use Rattle.pe_engine.proofs.Passed.{applied-reply}
 use Rattle.pe_engine.proofs.TopDocuments.{chain-some, top-is}
-
--- ---- the numbers that were given
-
-below-more : (n : ℕ) (ns : List ℕ) → AreBelow n ns → AreBelow (n + 1) ns
-below-more n [] b = tt
-below-more n (k ∷ ns) b = ((let z = b.0 in omega arith), below-more n ns b.1)
-
--- what holds of an engine's numbers, once one event more is noted
-pub noted-invariant : (old new : List Made) (m : Made) (frames : ℕ) (ns : List ℕ) → new ≡ old ++ m ∷ [] → length old < 1000000 → frames ≤ length old + 1 → AreBelow (length old + 1) ns
-    → (length new ≤ 1000000) × (frames ≤ length new) × AreBelow (length new + 1) ns
-noted-invariant old new m frames ns is few within below =
-    let grown : length new ≡ length old + 1 = ap length is ∙ length-append old (m ∷ []) in
-    (omega arith, omega arith, subst (λ k. AreBelow (k + 1) ns) (sym grown) (below-more (length old + 1) ns below))
 
 -- ---- the causes
 

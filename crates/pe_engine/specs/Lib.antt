@@ -17,3 +17,4 @@ pub mod Deciding
 pub mod Prompting
 pub mod Using
 pub mod Registering
+pub mod Posting

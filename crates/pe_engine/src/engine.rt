@@ -48,9 +48,10 @@ pub struct Engine {
 }
 
 impl Model for Engine {
-    ghost use Rattle.std.specs.Prelude.{◌≤◌, ◌+◌, length};
+    ghost use Rattle.std.specs.Prelude.{◌≡◌, ◌≤◌, ◌<◌, ◌+◌, ℕ, true, length};
     ghost use Rattle.pe_base.specs.declared.limits.TheConstants.{EVENT_LIMIT};
     ghost use Rattle.pe_status.specs.Registry.{AreBelow};
+    ghost use Rattle.pe_delegation.specs.Posted.{was_given};
     ghost use Rattle.pe_requests.specs.PromptSteps as requests;
     ghost use Rattle.pe_engine.specs.StandsFor.{EngineValue};
 
@@ -58,7 +59,7 @@ impl Model for Engine {
 
     ghost view = { λ e. record { duration = e.duration; clock = e.clock; failed = e.failed; made = e.made.items; frames = e.frames; store = e.store; statuses = e.statuses; prompts = e.prompts; messages = e.messages } };
 
-    ghost invariant = { λ e. (length e.made.items ≤ EVENT_LIMIT) × (e.frames.made ≤ length e.made.items) × AreBelow (length e.made.items + 1) e.statuses.given × requests.AreBelow (length e.made.items + 1) e.prompts };
+    ghost invariant = { λ e. (length e.made.items ≤ EVENT_LIMIT) × (e.frames.made ≤ length e.made.items) × AreBelow (length e.made.items + 1) e.statuses.given × requests.AreBelow (length e.made.items + 1) e.prompts × ((k : ℕ) → was_given e.messages.given k ≡ true → k < length e.made.items + 1) };
 }
 
 impl Engine {

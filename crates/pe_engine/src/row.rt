@@ -8,6 +8,7 @@ ghost use Rattle.pe_engine.specs.Rows.{no_kept_attributes, blocks, no_deliveries
 use pe_activation::Activatable;
 use pe_base::{Bytes, DocNo, Millis, Stamp};
 use pe_changes::Governed;
+use pe_delegation::Addressed;
 use pe_features::{Capability, Feature};
 use pe_frames::Numbered;
 use pe_origin::{Origin, Place, same_origin};
@@ -127,6 +128,14 @@ impl Numbered for Row {
 
     fn number(&self) -> DocNo {
         self.doc
+    }
+}
+
+impl Addressed for Row {
+    ghost origin_of = { λ x. x.origin };
+
+    fn origin(&self) -> &Origin {
+        &self.origin
     }
 }
 

@@ -128,6 +128,28 @@ impl Engine {
             } => self.set(now, feature, first, second, *state, *span, steps),
             Event::Query { frame, feature } => self.query(now, *frame, feature.as_slice(), steps),
             Event::DropStatus { status } => self.drop_status(now, *status, steps),
+            Event::Request { frame, feature } => {
+                self.request(now, *frame, feature.as_slice(), steps)
+            }
+            Event::Answered {
+                prompt,
+                outcome,
+                life,
+            } => self.answer_prompt(now, *prompt, *outcome, *life, steps),
+            Event::Post {
+                sender,
+                target,
+                origin,
+                capability,
+            } => self.post(
+                now,
+                *sender,
+                *target,
+                origin,
+                capability.as_slice(),
+                steps,
+            ),
+            Event::Deliver { message } => self.deliver(now, *message, steps),
             Event::OpenPage { .. }
             | Event::Embed { .. }
             | Event::Attr { .. }
@@ -137,10 +159,6 @@ impl Engine {
             | Event::PolicyOf { .. }
             | Event::Features { .. }
             | Event::UseCall { .. }
-            | Event::Request { .. }
-            | Event::Answered { .. }
-            | Event::Post { .. }
-            | Event::Deliver { .. }
             | Event::Tick => self.reply_after_time(stamped, steps),
         }
     }

@@ -3,6 +3,7 @@ mod attr;
 mod close;
 mod history;
 mod input;
+mod message;
 mod navigate;
 mod open;
 pub(crate) mod policy;

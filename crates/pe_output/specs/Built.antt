@@ -29,6 +29,8 @@ is_built_event (event.SetState feature first second state span) = true
 is_built_event (event.UseCall frame call) = true
 is_built_event (event.Query frame feature) = true
 is_built_event (event.DropStatus status) = true
+is_built_event (event.Post sender target named capability) = true
+is_built_event (event.Deliver message) = true
 is_built_event event.Tick = true
 is_built_event e = false
 
