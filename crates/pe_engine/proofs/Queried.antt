@@ -141,7 +141,7 @@ module _ (laws : HistoryLaws) where
         page-of T f x.doc.doc (ap (document_in T) (sym frame) ∙ node.document) ∙ ap Some (sym same),
       )
 
-some-injective : {A : Type 0} (o : Option A) (x y : A) → o ≡ Some x → o ≡ Some y → x ≡ y
+pub some-injective : {A : Type 0} (o : Option A) (x y : A) → o ≡ Some x → o ≡ Some y → x ≡ y
 some-injective o x y p q = let z : Some x ≡ Some y = sym p ∙ q in cc
 
 -- ---- the replies
