@@ -70,4 +70,3 @@ module _ (laws : HistoryLaws) where
 
 pub some-injective : {A : Type 0} (o : Option A) (x y : A) → o ≡ Some x → o ≡ Some y → x ≡ y
 some-injective o x y p q = let z : Some x ≡ Some y = sym p ∙ q in cc
-

@@ -119,6 +119,17 @@ impl Engine {
                 self.navigate(now, *frame, url, header, steps)
             }
             Event::Close { frame } => self.close(now, *frame, steps),
+            Event::Request { frame, feature } => self.request(
+                now,
+                *frame,
+                feature.as_slice(),
+                steps,
+            ),
+            Event::Answered {
+                prompt,
+                outcome,
+                life,
+            } => self.answer_prompt(now, *prompt, *outcome, *life, steps),
             Event::SetState {
                 feature,
                 first,
@@ -137,8 +148,6 @@ impl Engine {
             | Event::UseCall { .. }
             | Event::Query { .. }
             | Event::DropStatus { .. }
-            | Event::Request { .. }
-            | Event::Answered { .. }
             | Event::Post { .. }
             | Event::Deliver { .. }
             | Event::Tick => self.reply_after_time(stamped, steps),

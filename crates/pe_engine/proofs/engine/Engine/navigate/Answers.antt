@@ -90,4 +90,4 @@ returns g c = λ H s.
     (ap (λ (w : EngineValue). w.frames) c.in_ok-after.ensures.rest ∙ sym has.frames_are))
 
 pub invariant_of-self : goal.invariant_of-self
-invariant_of-self g c = (c.self-2.invariant.0, omega (arith, c.navigate.ensures.made, c.take_attributes.ensures.made, c.self-2.invariant.1))
+invariant_of-self g c = (c.self-2.invariant.0, omega (arith, c.navigate.ensures.made, c.take_attributes.ensures.made, c.self-2.invariant.1), c.self-2.invariant.2)

@@ -28,7 +28,7 @@ invariant_of-self g c =
     let (x, here) = some-of (entry_of c.args.self.now.frames.entries h) c.in_ok-h.ensures.found in
     let inside = ap (λ (v : EngineValue). entry_of v.frames.entries h) c.self.view_is ∙ here in
     let same = made-taken c.gate_of.result c.judge-verdict.result h x c.self.inside.frames c.take.new.frames inside c.take.ensures in
-    (c.self.invariant.0, subst (λ n. n ≤ length c.self.inside.made.items) (sym same) c.self.invariant.1)
+    (c.self.invariant.0, subst (λ n. n ≤ length c.self.inside.made.items) (sym same) c.self.invariant.1, c.self.invariant.2)
 
 pub returns : goal.returns
 returns g c = λ H s.
