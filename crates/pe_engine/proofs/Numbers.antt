@@ -1,5 +1,6 @@
 -- The numbers that an engine gave are below that of the next event.
 use Rattle.std.proofs.Common.{◌≡◌, ℕ, ◌+◌, ◌<◌, ◌≤◌, Bool, true, false, ◌||◌, nat_eq, List, [], ◌∷◌, ◌++◌, length, IsSome, ◌∙◌, ap, sym, subst, arith, length-append}
+use Rattle.std.proofs.lemmas.Bool.Decides.{Decides-eqb}
 use Rattle.pe_prompts.specs.Queues.{Queues, given_of}
 use Rattle.pe_status.specs.Registry.{AreBelow}
 use Rattle.pe_delegation.specs.Posted.{was_given}
@@ -36,5 +37,5 @@ pub given-more : (n number : ℕ) (old new : List ℕ) → number ≡ n → ((k 
 given-more n number old new same known below k given = by_test (nat_eq number k) refl (sym (known k) ∙ given)
   where
     by_test : (b : Bool) → nat_eq number k ≡ b → (b || was_given old k) ≡ true → k < n + 1
-    by_test true q h = let i : number ≡ k = (Decides-nat_eq number k).0 q in omega (arith, i, same)
+    by_test true q h = let i : number ≡ k = (Decides-eqb number k).0 q in omega (arith, i, same)
     by_test false q h = let z = below k h in omega arith

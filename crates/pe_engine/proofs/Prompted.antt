@@ -378,7 +378,7 @@ module _ (laws : EngineLaws) where
       → IsDecided (replied e.duration H) now k out life pair decided → HasSettled e.prompts prompts k
       → ((y : State × Life) → decided ≡ Some y → IsSet (setting_for pair y) p.store value) → (decided ≡ None → IsDismissed pair now p.store value)
       → ((T : RepliedHistory) (s : Step) (y : State × Life) → decided ≡ Some y → setting_by s.time s.event T ≡ Some (setting_for pair y) → IsTrue (holds (s ∷ T) now y.1) → IsStore T now p.store → IsStatuses T p.statuses
-        → AreGoverned T (λ (z : Row). z.doc) blocks p.frames.entries p.statuses.live → after.items ≡ changes_after T (s ∷ T) now)
+      → AreGoverned T (λ (z : Row). z.doc) blocks p.frames.entries p.statuses.live → after.items ≡ changes_after T (s ∷ T) now)
       → (decided ≡ None → after.items ≡ [])
       → IsReplied e u H (timed now (event.Answered k out life)) (Ok (record { before = before; answer = said; after = after }))
   answer-reply e p u H now k out life pair decided value prompts said before after stands passed p_is has fits none says is settled sets dismisses brings empty =

@@ -18,11 +18,11 @@ use Rattle.pe_engine.specs.StandsFor.{EngineValue}
 abbrev pub is_answered : Event → Bool
 is_answered (event.Navigate frame url header) = true
 is_answered (event.Close frame) = true
+is_answered (event.Request frame feature) = true
+is_answered (event.Answered prompt out given) = true
 is_answered (event.SetState feature first second state span) = true
 is_answered (event.Query frame feature) = true
 is_answered (event.DropStatus status) = true
-is_answered (event.Request frame feature) = true
-is_answered (event.Answered prompt out given) = true
 is_answered (event.Post sender target named capability) = true
 is_answered (event.Deliver message) = true
 is_answered other = is_plain other

@@ -119,6 +119,17 @@ impl Engine {
                 self.navigate(now, *frame, url, header, steps)
             }
             Event::Close { frame } => self.close(now, *frame, steps),
+            Event::Request { frame, feature } => self.request(
+                now,
+                *frame,
+                feature.as_slice(),
+                steps,
+            ),
+            Event::Answered {
+                prompt,
+                outcome,
+                life,
+            } => self.answer_prompt(now, *prompt, *outcome, *life, steps),
             Event::SetState {
                 feature,
                 first,
@@ -128,14 +139,6 @@ impl Engine {
             } => self.set(now, feature, first, second, *state, *span, steps),
             Event::Query { frame, feature } => self.query(now, *frame, feature.as_slice(), steps),
             Event::DropStatus { status } => self.drop_status(now, *status, steps),
-            Event::Request { frame, feature } => {
-                self.request(now, *frame, feature.as_slice(), steps)
-            }
-            Event::Answered {
-                prompt,
-                outcome,
-                life,
-            } => self.answer_prompt(now, *prompt, *outcome, *life, steps),
             Event::Post {
                 sender,
                 target,

@@ -198,12 +198,7 @@ impl Engine {
 
     /// Puts a request at this time to the pending prompt of its pair in its page, or to the new one of this
     /// number where there is none, and notes what it made.
-    fn ask(
-        &mut self,
-        now: Millis,
-        number: PromptNo,
-        asking: Asking,
-    ) -> Result<Answer, AllocError>
+    fn ask(&mut self, now: Millis, number: PromptNo, asking: Asking) -> Result<Answer, AllocError>
         requires number { number ≡ length self.old.made + 1 }
         requires few { length self.old.made < EVENT_LIMIT }
         ensures { IfOk result (HasPrompted self.old self.new now number asking.page (asking.feature, asking.key) asking.asker) }

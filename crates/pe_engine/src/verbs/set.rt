@@ -111,7 +111,12 @@ fn life_for(now: Millis, span: Option<u64>) -> Life
 
 impl Engine {
     /// Whether a setting of this pair would make an entry in a store of as many as there may be.
-    pub(crate) fn exceeds_store<L: Ledger>(&self, feature: Feature, key: &Key, steps: &mut Steps<L>) -> bool
+    pub(crate) fn exceeds_store<L: Ledger>(
+        &self,
+        feature: Feature,
+        key: &Key,
+        steps: &mut Steps<L>,
+    ) -> bool
         ensures { (H : History) → StandsFor self.now H
             → result ≡ (not (has_entry (steps_of self.now H) (feature, key.now)) && nat_le STORE_LIMIT (length (entries (steps_of self.now H)))) }
     {
