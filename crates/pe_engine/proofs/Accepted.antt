@@ -1,7 +1,6 @@
 -- An engine that stands for a history stands for it with one more event.
-use Rattle.std.proofs.Common.{◌≡◌, ℕ, suc, ◌≤◌, Bool, true, false, List, [], ◌∷◌, ◌++◌, map, length, None, IsTrue, refl, sym, ◌∙◌, ap, subst, arith}
+use Rattle.std.proofs.Common.{◌≡◌, ℕ, ◌≤◌, Bool, true, false, List, [], ◌∷◌, ◌++◌, length, None, IsTrue, refl, sym, ◌∙◌, ap, subst, arith}
 use Rattle.pe_frames.specs.Forest.{Forest}
-use Rattle.pe_store.specs.Entries.{StoreValue}
 use Rattle.pe_status.specs.declared.registered.Registered.{Registered}
 use Rattle.pe_status.specs.Registry.{Registry}
 use Rattle.pe_events.specs.declared.answer.Answer.{Answer}

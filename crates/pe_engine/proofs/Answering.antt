@@ -13,7 +13,7 @@ use Rattle.pe_engine.specs.declared.refusal.Refusal.TheVariants as refusal
 use Rattle.pe_engine.specs.declared.replies.Replies.{Replies}
 use Rattle.pe_engine.specs.Giving.{GivesPlace}
 use Rattle.pe_engine.specs.Replying.{steps_of, IsAnswer, IsReplied}
-use Rattle.pe_engine.specs.StandsFor.{EngineValue, StandsFor}
+use Rattle.pe_engine.specs.StandsFor.{EngineValue}
 
 -- a refusal for a cause
 pub answer-for : (old : EngineValue) (H : History) (e : Timed) (why : Cause) (r : Result Answer Refusal) → IsErrAnd r (λ x. x ≡ refusal.For why)

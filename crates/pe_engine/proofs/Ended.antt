@@ -1,5 +1,5 @@
 -- An event that ends documents.
-use Rattle.std.proofs.Common.{◌≡◌, ℕ, Bool, true, false, not, ◌==◌, List, [], ◌∷◌, ◌++◌, length, Some, None, Ok, IsTrue, refl, sym, ◌∙◌, ap, subst}
+use Rattle.std.proofs.Common.{◌≡◌, ℕ, Bool, true, false, not, ◌==◌, List, [], ◌∷◌, ◌++◌, Some, None, Ok, IsTrue, refl, sym, ◌∙◌, ap, subst}
 use Rattle.std.specs.Prelude.{filter}
 use Rattle.std.specs.Global.{Vec}
 use Rattle.std.specs.List.{list_any}
@@ -16,7 +16,7 @@ use Rattle.pe_rules.specs.History.{StepAnswer, Step, RepliedHistory, History}
 use Rattle.pe_rules.specs.Current.{ends, is_current, document_in}
 use Rattle.pe_rules.specs.Causes.{cause_of}
 use Rattle.pe_rules.specs.Changes.{changes_after}
-use Rattle.pe_rules.specs.Replies.{answer_of, replied, step_answer, is_regular}
+use Rattle.pe_rules.specs.Replies.{answer_of, replied, step_answer}
 use Rattle.pe_laws.specs.Effects.{effects}
 use Rattle.pe_laws.specs.StatusesLaws.{Each}
 use Rattle.pe_changes.specs.Parts.{IsStore, IsStatuses, AreGoverned}
@@ -29,9 +29,9 @@ use Rattle.pe_engine.specs.declared.engine.Made.{Made}
 use Rattle.pe_engine.specs.Changing.{HasNoted}
 use Rattle.pe_engine.specs.Laws.{EngineLaws}
 use Rattle.pe_engine.specs.Leaving.{numbers_of, without_documents}
-use Rattle.pe_engine.specs.Replying.{steps_of, HasPassed, IsReplied}
+use Rattle.pe_engine.specs.Replying.{HasPassed, IsReplied}
 use Rattle.pe_engine.specs.Rows.{blocks}
-use Rattle.pe_engine.specs.StandsFor.{EngineValue, IsNamed, StandsForAt, StandsFor}
+use Rattle.pe_engine.specs.StandsFor.{EngineValue, IsNamed, StandsFor}
 use Rattle.pe_engine.specs.Objects.{handle_at}
 use Rattle.pe_engine.specs.Tree.{IsTree}
 use Rattle.pe_engine.proofs.Accepted.{step_of, is_idle, regular-on, documents-within, named-stays, messages-stay}
@@ -94,7 +94,7 @@ module _ (laws : EngineLaws) where
       → ((item : StepAnswer) (d : ℕ) → is_current (replied e.duration H) d ≡ true → not (is_gone (numbers_of gone) d) ≡ is_current (step_of x item ∷ replied e.duration H) d)
       → w.statuses.live ≡ without_documents (numbers_of gone) v.statuses.live → w.statuses.given ≡ v.statuses.given → w.prompts.given ≡ v.prompts.given → ((page : ℕ) → pending w.prompts page ≡ left_by_all (numbers_of gone) (pending v.prompts page)) → IsEnded first v.store w.store
       → ((s : Step) → IsTrue (ends (f ∷ []) s.event) → IsStore (replied e.duration H) x.time v.store → IsStatuses (s ∷ replied e.duration H) w.statuses
-        → AreGoverned (s ∷ replied e.duration H) (λ (y : Row). y.doc) blocks w.frames.entries w.statuses.live → after.items ≡ changes_after (replied e.duration H) (s ∷ replied e.duration H) x.time)
+      → AreGoverned (s ∷ replied e.duration H) (λ (y : Row). y.doc) blocks w.frames.entries w.statuses.live → after.items ≡ changes_after (replied e.duration H) (s ∷ replied e.duration H) x.time)
       → w.frames ≡ u.frames
       → IsReplied e u H x (Ok (record { before = before; answer = said; after = after }))
   ended-reply e p v w u H x f first m frames gone said before after stands passed has end none says shown tree are live given prompts left ended changes same =

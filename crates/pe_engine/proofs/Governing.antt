@@ -1,5 +1,5 @@
 -- The documents of statuses, in the frames that show them.
-use Rattle.std.proofs.Common.{◌≡◌, ℕ, ◌≤◌, Bool, true, false, not, ◌&&◌, ◌||◌, ◌==◌, List, [], ◌∷◌, map, length, Option, Some, None, IsTrue, is_some, option_map, option_and_then, if◌then◌else◌, refl, sym, ◌∙◌, ap, subst, cond, true≢false}
+use Rattle.std.proofs.Common.{◌≡◌, ℕ, ◌≤◌, Bool, true, false, not, ◌&&◌, ◌||◌, ◌==◌, List, ◌∷◌, length, Option, Some, None, IsTrue, is_some, option_map, option_and_then, if◌then◌else◌, refl, sym, ◌∙◌, ap, subst, true≢false}
 use Rattle.std.proofs.lemmas.Bool.Decides.{Decides-eqb}
 use Rattle.pe_features.specs.declared.feature.Feature.{Feature}
 use Rattle.pe_frames.specs.Forest.{Entry, Forest, entry_of, numbered}

@@ -1,5 +1,5 @@
 -- Replies to plain events, and to events that are refused.
-use Rattle.std.proofs.Common.{◌≡◌, ℕ, ◌≤◌, false, List, [], ◌∷◌, length, Ok, refl, sym, ◌∙◌, ap, subst, arith}
+use Rattle.std.proofs.Common.{◌≡◌, ◌≤◌, [], ◌∷◌, Ok, sym, ◌∙◌, ap, subst, arith}
 use Rattle.std.specs.Global.{Vec}
 use Rattle.std.proofs.lemmas.Bool.Decides.{nat_tests}
 use Rattle.pe_events.specs.declared.answer.Answer.{Answer}
@@ -17,7 +17,7 @@ use Rattle.pe_engine.specs.Objects.{handle_at}
 use Rattle.pe_engine.specs.declared.replies.Replies.{Replies}
 use Rattle.pe_engine.specs.declared.row.Row.{Row}
 use Rattle.pe_engine.specs.Laws.{EngineLaws}
-use Rattle.pe_engine.specs.Replying.{steps_of, IsAcceptance, IsRefusal, IsAcceptedReply, IsReplied}
+use Rattle.pe_engine.specs.Replying.{IsAcceptance, IsRefusal, IsReplied}
 use Rattle.pe_engine.specs.Rows.{blocks}
 use Rattle.pe_laws.specs.StatusesLaws.{Each}
 use Rattle.pe_engine.specs.Tree.{IsTree}
@@ -38,26 +38,29 @@ module _ (laws : EngineLaws) where
   pub accepted-late : (e w u : EngineValue) (H : History) (x : Timed) (said : Answer) (before after : Vec Change) → StandsFor e H → IsAcceptance e w H x said
       → u ≡ record w { store = u.store } → BringsChanges w x.time before → LeavesStore w x.time u.store → after.items ≡ []
       → IsReplied e u H x (Ok (record { before = before; answer = said; after = after }))
-  accepted-late e w u H x said before after s is rest brings leaves empty = (is.faultless, record {
-    says = is.says;
-    before = brings T in-time store statuses (governed-before laws.history step T w.frames.entries w.statuses.live (documents-within laws T w.statuses statuses) governed);
-    after = empty ∙ sym (ap (λ U. changes_after T U x.time) told ∙ laws.history.changes.none_after step T x.time (quiet.sets item) (quiet.dismisses item) (quiet.ends item));
-    duration = ap (λ (v : EngineValue). v.duration) rest ∙ is.duration;
-    stands = subst (λ (v : EngineValue). StandsForAt v (x ∷ H) v.clock) (sym rest) (record {
-      regular = is.stands.regular;
-      steps = subst (λ U. StandsForSteps (record w { store = u.store }) U w.clock) (sym told-now) (record {
-        working = is.stands.steps.working;
-        clock = is.stands.steps.clock ∙ ap clock told-now;
-        tree = subst (λ U. IsTree U w.made w.frames) told-now is.stands.steps.tree;
-        store = subst (λ t. IsStore (step ∷ T) t u.store) (sym clocked) (laws.stores.quiet step T x.time u.store (quiet.sets item) (quiet.dismisses item) (quiet.ends item) (leaves T in-time store));
-        statuses = subst (λ U. IsStatuses U w.statuses) told-now is.stands.steps.statuses;
-        named = subst (λ U. Each (IsNamed U w.made) w.statuses.live) told-now is.stands.steps.named;
-        prompts = subst (λ U. IsPrompts U w.prompts) told-now is.stands.steps.prompts;
-        messages = subst (λ U. IsMessages U w.messages) told-now is.stands.steps.messages;
-        addressed = subst (λ U. AreAddressed U (handle_at w.made) w.messages.waiting) told-now is.stands.steps.addressed;
+  accepted-late e w u H x said before after s is rest brings leaves empty = (
+    is.faultless,
+    record {
+      says = is.says;
+      before = brings T in-time store statuses (governed-before laws.history step T w.frames.entries w.statuses.live (documents-within laws T w.statuses statuses) governed);
+      after = empty ∙ sym (ap (λ U. changes_after T U x.time) told ∙ laws.history.changes.none_after step T x.time (quiet.sets item) (quiet.dismisses item) (quiet.ends item));
+      duration = ap (λ (v : EngineValue). v.duration) rest ∙ is.duration;
+      stands = subst (λ (v : EngineValue). StandsForAt v (x ∷ H) v.clock) (sym rest) (record {
+        regular = is.stands.regular;
+        steps = subst (λ U. StandsForSteps (record w { store = u.store }) U w.clock) (sym told-now) (record {
+          working = is.stands.steps.working;
+          clock = is.stands.steps.clock ∙ ap clock told-now;
+          tree = subst (λ U. IsTree U w.made w.frames) told-now is.stands.steps.tree;
+          store = subst (λ t. IsStore (step ∷ T) t u.store) (sym clocked) (laws.stores.quiet step T x.time u.store (quiet.sets item) (quiet.dismisses item) (quiet.ends item) (leaves T in-time store));
+          statuses = subst (λ U. IsStatuses U w.statuses) told-now is.stands.steps.statuses;
+          named = subst (λ U. Each (IsNamed U w.made) w.statuses.live) told-now is.stands.steps.named;
+          prompts = subst (λ U. IsPrompts U w.prompts) told-now is.stands.steps.prompts;
+          messages = subst (λ U. IsMessages U w.messages) told-now is.stands.steps.messages;
+          addressed = subst (λ U. AreAddressed U (handle_at w.made) w.messages.waiting) told-now is.stands.steps.addressed;
+        });
       });
-    });
-  })
+    },
+  )
     where
       T : RepliedHistory
       T = replied e.duration H

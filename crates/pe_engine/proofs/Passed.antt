@@ -58,10 +58,13 @@ module _ (laws : EngineLaws) where
       → IsParts u (step_of x (step_answer e.duration (replied e.duration H) x.time x.event) ∷ replied e.duration H) x.time
       → after.items ≡ changes_after (replied e.duration H) (step_of x (step_answer e.duration (replied e.duration H) x.time x.event) ∷ replied e.duration H) x.time
       → IsReplied e u H x (Ok (record { before = before; answer = said; after = after }))
-  applied-reply e p u H x m said before after stands passed none says noted parts changes = (none, record {
-    says = says;
-    before = passed.changes_are;
-    after = changes ∙ ap (λ U. changes_after (replied e.duration H) U x.time) (sym (laws.history.steps.told_step e.duration x H));
-    duration = noted.duration;
-    stands = subst (λ t. StandsForAt u (x ∷ H) t) (sym noted.clock) (stands-by-parts laws e u H x x.time stands.regular stands.steps.working none m noted parts);
-  })
+  applied-reply e p u H x m said before after stands passed none says noted parts changes = (
+    none,
+    record {
+      says = says;
+      before = passed.changes_are;
+      after = changes ∙ ap (λ U. changes_after (replied e.duration H) U x.time) (sym (laws.history.steps.told_step e.duration x H));
+      duration = noted.duration;
+      stands = subst (λ t. StandsForAt u (x ∷ H) t) (sym noted.clock) (stands-by-parts laws e u H x x.time stands.regular stands.steps.working none m noted parts);
+    },
+  )

@@ -1,5 +1,5 @@
 -- What an answer to `policy` says of the chain of documents.
-use Rattle.std.proofs.Common.{◌≡◌, ◌⊎◌, ℕ, Bool, true, false, not, List, [], ◌∷◌, Option, Some, None, Result, Ok, Err, IfOk, IsTrue, is_some, is_none, inl, inr, refl, sym, ◌∙◌, ap, subst, cond, true≢false}
+use Rattle.std.proofs.Common.{◌≡◌, ◌⊎◌, ℕ, Bool, true, false, not, List, [], ◌∷◌, Option, Some, None, Result, Ok, Err, IfOk, is_some, is_none, inl, inr, refl, sym, ◌∙◌, ap, subst, cond, true≢false}
 use Rattle.std.specs.Prelude.{option_map, option_and_then}
 use Rattle.std.specs.Option.{option_or}
 use Rattle.pe_base.specs.declared.denial.Denial.{Denial}
@@ -7,17 +7,14 @@ use Rattle.pe_features.specs.declared.feature.Feature.{Feature}
 use Rattle.pe_features.specs.Features.{feature_named, default_of}
 use Rattle.pe_origin.specs.declared.origin.Origin.{Origin}
 use Rattle.pe_allowlist.specs.Lists.{is_policy_controlled}
-use Rattle.pe_policy.specs.Links.{ChainDocument, pair_test, own_test, end_of_chain}
+use Rattle.pe_policy.specs.Links.{ChainDocument, pair_test, end_of_chain}
 use Rattle.pe_policy.specs.Denials.{first_failing, denial}
 use Rattle.pe_policy.specs.InheritedPolicy.{value_by_declared, inherited_value, inherited_below, value_for}
-use Rattle.pe_events.specs.declared.answer.Answer.{Answer}
 use Rattle.pe_events.specs.declared.answer.Answer.TheVariants as answer
 use Rattle.pe_events.specs.declared.cause.Cause.{Cause}
-use Rattle.pe_events.specs.declared.cause.Cause.TheVariants as cause
 use Rattle.pe_events.specs.declared.event.Event.{Event}
 use Rattle.pe_events.specs.declared.event.Event.TheVariants as event
 use Rattle.pe_events.specs.declared.reason.Reason.TheVariants as reason
-use Rattle.pe_events.specs.Timed.{Timed}
 use Rattle.pe_rules.specs.History.{RepliedHistory, History}
 use Rattle.pe_rules.specs.Current.{document_in}
 use Rattle.pe_rules.specs.Denials.{chain_documents, why_denied}
@@ -30,7 +27,7 @@ use Rattle.pe_engine.specs.Causes.{time_cause, named_cause, other_cause}
 use Rattle.pe_engine.specs.StandsFor.{EngineValue}
 use Rattle.pe_engine.specs.Replying.{timed, steps_of}
 use Rattle.pe_engine.specs.Stepping.{is_answered, IsReplyBy, IsReply}
-use Rattle.pe_engine.specs.Promises.{NoTestFails, IsFirstFailing, IsAskedFor, IsAllowedBelow, IsDeniedBelow, IsAllowedIn, IsDeniedIn}
+use Rattle.pe_engine.specs.Promises.{NoTestFails, IsFirstFailing, IsAllowedBelow, IsDeniedBelow, IsAllowedIn, IsDeniedIn}
 use Rattle.pe_engine.proofs.CausesParts.{parts}
 use Rattle.pe_engine.proofs.VerbAnswers.{feature-policy}
 

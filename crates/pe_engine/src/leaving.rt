@@ -66,13 +66,6 @@ impl Engine {
         end_statuses(&mut self.statuses, gone);
         drop_requests(&mut self.prompts, gone);
         let ended = self.store.end_page(first)?;
-        changes_of_end(
-            self.alloc,
-            &ended,
-            &self.statuses,
-            &self.frames,
-            now,
-            steps,
-        )
+        changes_of_end(self.alloc, &ended, &self.statuses, &self.frames, now, steps)
     }
 }

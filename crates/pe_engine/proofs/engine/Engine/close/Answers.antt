@@ -1,4 +1,4 @@
-use Rattle.std.proofs.Common.{◌≡◌, ◌≤◌, refl, sym, ◌∙◌, ap, subst, arith}
+use Rattle.std.proofs.Common.{◌≡◌, refl, sym, ◌∙◌, ap, subst}
 use Rattle.pe_frames.specs.Forest.{Forest}
 use Rattle.pe_frames.specs.Order.{closed, docs_under}
 use Rattle.pe_events.specs.declared.answer.Answer.TheVariants as answer

@@ -1,4 +1,4 @@
-use Rattle.std.proofs.Common.{◌≡◌, Some, option_map, sym, ◌∙◌, ap}
+use Rattle.std.proofs.Common.{option_map, sym, ◌∙◌, ap}
 use Rattle.std.specs.Option.{option_copied}
 use Rattle.pe_frames.specs.Forest.{Entry, entry_of, node_of, top_of}
 use Rattle.pe_engine.specs.declared.row.Row.{Row}
