@@ -1,5 +1,5 @@
 -- The reply to a post or a delivery, by what it leaves of the frames and the messages.
-use Rattle.std.proofs.Common.{◌≡◌, ℕ, Bool, true, false, List, [], ◌∷◌, ◌++◌, None, Ok, refl, sym, ◌∙◌, ap, subst}
+use Rattle.std.proofs.Common.{◌≡◌, Bool, true, false, [], ◌∷◌, ◌++◌, None, Ok, refl, sym, ◌∙◌, ap, subst}
 use Rattle.std.specs.Global.{Vec}
 use Rattle.pe_frames.specs.Forest.{Forest}
 use Rattle.pe_delegation.specs.Posted.{Posted}

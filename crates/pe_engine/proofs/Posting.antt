@@ -1,9 +1,7 @@
 -- Posts.
-use Rattle.std.proofs.Common.{◌≡◌, ℕ, ◌+◌, ◌<◌, ◌≤◌, Bool, true, false, not, ◌==◌, nat_le, List, [], ◌∷◌, ◌++◌, length, Option, Some, None, Ok, Err, is_some, is_none, option_map, option_and_then, if◌then◌else◌, refl, sym, ◌∙◌, ap, subst}
+use Rattle.std.proofs.Common.{◌≡◌, ℕ, ◌+◌, Bool, true, false, not, ◌==◌, List, [], ◌∷◌, ◌++◌, length, Option, Some, None, Ok, Err, is_some, option_map, if◌then◌else◌, refl, sym, ◌∙◌, ap, subst}
 use Rattle.std.specs.Prelude.{IsSome}
-use Rattle.std.specs.Option.{option_or}
 use Rattle.std.specs.Global.{Vec}
-use Rattle.pe_base.specs.declared.limits.TheConstants.{MESSAGE_LIMIT}
 use Rattle.pe_base.specs.declared.denial.Denial.{Denial}
 use Rattle.pe_base.specs.Activation.{is_transient}
 use Rattle.pe_arena.specs.declared.handle.Handle.{Handle}
@@ -13,9 +11,8 @@ use Rattle.pe_frames.specs.declared.node.Node.{Node}
 use Rattle.pe_frames.specs.Forest.{Entry, Forest, entry_of, node_in, node_of, top_of}
 use Rattle.pe_frames.specs.Walk.{changed_page}
 use Rattle.pe_activation.specs.Stamps.{consumed}
-use Rattle.pe_origin.specs.declared.origin.Origin.{Origin}
 use Rattle.pe_delegation.specs.declared.message.Message.{Message}
-use Rattle.pe_delegation.specs.Posted.{Posted, waiting_count}
+use Rattle.pe_delegation.specs.Posted.{Posted}
 use Rattle.pe_events.specs.Timed.{Timed}
 use Rattle.pe_events.specs.declared.answer.Answer.TheVariants as answer
 use Rattle.pe_events.specs.declared.answer.Change.{Change}
@@ -29,8 +26,8 @@ use Rattle.pe_rules.specs.Embedders.{page, page_of_frame}
 use Rattle.pe_rules.specs.Current.{document_in, is_live}
 use Rattle.pe_rules.specs.Denials.{why_denied}
 use Rattle.pe_rules.specs.Activation.{has_transient}
-use Rattle.pe_rules.specs.Settings.{setting_named, setting_by, word_origin}
-use Rattle.pe_rules.specs.Causes.{cause_of, names_unknown, names_settled, names_closed, names_not_shown, is_no_origin, is_same_number, has_bad_url, has_bad_feature, has_bad_call, has_bad_capability, names_other_page, exceeds_pages, exceeds_depth, exceeds_frames, exceeds_statuses, exceeds_pending, exceeds_store}
+use Rattle.pe_rules.specs.Settings.{setting_named, setting_by}
+use Rattle.pe_rules.specs.Causes.{cause_of, names_unknown, names_settled, names_closed, names_not_shown, is_no_origin, has_bad_url, has_bad_feature, has_bad_call, has_bad_capability, names_other_page, exceeds_pages, exceeds_depth, exceeds_frames, exceeds_statuses, exceeds_pending, exceeds_store}
 use Rattle.pe_rules.specs.Replies.{answer_of, answer_of_post, post_reason, replied}
 use Rattle.pe_laws.specs.HistoryLaws.{HistoryLaws}
 use Rattle.pe_messages.specs.Parts.{IsPost}

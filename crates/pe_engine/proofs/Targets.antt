@@ -1,10 +1,9 @@
 -- The frames of a tree show the origin of each document that is current, and nothing of others.
-use Rattle.std.proofs.Common.{◌≡◌, ℕ, Bool, true, false, ◌==◌, cond, List, Option, Some, None, is_some, option_map, option_and_then, refl, sym, ◌∙◌, ap, subst, arith, true≢false}
+use Rattle.std.proofs.Common.{◌≡◌, ℕ, Bool, true, false, ◌==◌, cond, List, Option, Some, None, is_some, option_map, option_and_then, refl, sym, ◌∙◌, ap, arith, true≢false}
 use Rattle.std.proofs.lemmas.Bool.Decides.{nat_tests}
-use Rattle.pe_arena.specs.declared.handle.Handle.{Handle}
 use Rattle.pe_frames.specs.Forest.{Entry, Forest, entry_of, numbered, doc_of}
 use Rattle.pe_origin.specs.declared.origin.Origin.{Origin}
-use Rattle.pe_rules.specs.History.{RepliedHistory, History, some_if}
+use Rattle.pe_rules.specs.History.{History, some_if}
 use Rattle.pe_rules.specs.Making.{frame_of}
 use Rattle.pe_rules.specs.Current.{is_current, document_in, is_live}
 use Rattle.pe_rules.specs.Origins.{origin_of}
@@ -14,7 +13,7 @@ use Rattle.pe_messages.specs.Parts.{ShowsCurrent}
 use Rattle.pe_engine.specs.declared.engine.Made.{Made}
 use Rattle.pe_engine.specs.declared.row.Row.{Row}
 use Rattle.pe_engine.specs.Objects.{handle_at}
-use Rattle.pe_engine.specs.Tree.{IsNode, IsTree}
+use Rattle.pe_engine.specs.Tree.{IsTree}
 use Rattle.pe_engine.proofs.Look.{node-at, live-at}
 
 module _ (laws : HistoryLaws) where

@@ -2,14 +2,13 @@
 -- HTML Standard, "window post message steps", with Capability Delegation in outline.
 use Rattle.std.specs.Prelude.{◌≡◌, ℕ, ◌+◌, ◌<◌, ◌≤◌, Bool, true, false, List, [], ◌∷◌, ◌++◌, length, Option, Some, None, Result, Ok, Err, IfSome, IsSome, is_some, option_map, option_and_then}
 use Rattle.pe_base.specs.declared.limits.TheConstants.{EVENT_LIMIT}
-use Rattle.pe_arena.specs.declared.handle.DocRef.{DocRef}
 use Rattle.pe_features.specs.Capabilities.{capability_named}
 use Rattle.pe_frames.specs.Forest.{Forest, entry_of, with_doc}
 use Rattle.pe_origin.specs.declared.origin.Origin.{Origin}
 use Rattle.pe_delegation.specs.declared.delivery.Delivery.{Delivery}
 use Rattle.pe_delegation.specs.declared.delivery.Delivery.TheVariants.{Put, Gone, OtherOrigin}
 use Rattle.pe_delegation.specs.declared.message.Message.{Message}
-use Rattle.pe_delegation.specs.Posted.{message_of, was_given, without, delivery_of}
+use Rattle.pe_delegation.specs.Posted.{message_of, without, delivery_of}
 use Rattle.pe_events.specs.declared.cause.Cause.TheVariants as cause
 use Rattle.pe_rules.specs.Causes.{is_no_origin}
 use Rattle.pe_rules.specs.Settings.{word_origin}

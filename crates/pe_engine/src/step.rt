@@ -144,14 +144,7 @@ impl Engine {
                 target,
                 origin,
                 capability,
-            } => self.post(
-                now,
-                *sender,
-                *target,
-                origin,
-                capability.as_slice(),
-                steps,
-            ),
+            } => self.post(now, *sender, *target, origin, capability.as_slice(), steps),
             Event::Deliver { message } => self.deliver(now, *message, steps),
             Event::OpenPage { .. }
             | Event::Embed { .. }

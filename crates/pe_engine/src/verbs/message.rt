@@ -328,10 +328,7 @@ impl Engine {
         requires waits { deliver_fault self.old.messages no ≡ None }
         ensures { HasSettled self.old self.new no now result }
     {
-        let delivery = self
-            .messages
-            .deliver(no, &self.frames, steps)
-            .unwrap();
+        let delivery = self.messages.deliver(no, &self.frames, steps).unwrap();
         receive(&mut self.frames, &delivery, now, steps);
         delivery
     }

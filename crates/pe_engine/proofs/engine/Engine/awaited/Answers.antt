@@ -1,4 +1,4 @@
-use Rattle.std.proofs.Common.{◌≡◌, ◌<◌, ◌≤◌, option_map, ◌∙◌, ap, arith}
+use Rattle.std.proofs.Common.{◌<◌, ◌≤◌, option_map, ◌∙◌, ap, arith}
 use Rattle.pe_rules.specs.Replies.{replied}
 use Rattle.pe_messages.specs.Parts.{cause_of_fault}
 use Rattle.pe_engine.proofs.CausesParts.{first-time}

@@ -1,5 +1,4 @@
-use Rattle.std.proofs.Common.{◌≡◌, Bool, not, is_some, Option, ap, sym, ◌∙◌}
-use Rattle.pe_arena.specs.declared.handle.Handle.{Handle}
+use Rattle.std.proofs.Common.{not, is_some, ap, sym, ◌∙◌}
 use Rattle.pe_frames.specs.Forest.{entry_of, top_of}
 use Rattle.pe_engine.specs.StandsFor.{EngineValue}
 use Rattle.pe_engine.proofs.CommonCauses.{some-mapped}

@@ -56,8 +56,8 @@ returns g c = λ H s.
     let clause = subst (λ (v : Forest Row). IfSome (entry_of v.entries h) (λ z. N.entries ≡ changed_page (consumed (λ (r : Row). r.stamp) (λ t (r : Row). record r { stamp = t })) v.entries (top_of z))) frames c.consume.ensures.entries in
     let entries = subst (λ o. IfSome o (λ z. N.entries ≡ changed_page (consumed (λ (r : Row). r.stamp) (λ t (r : Row). record r { stamp = t })) e.frames.entries (top_of z))) there clause in
     let says = post-answer e.duration T c.args.now c.args.sender c.args.target d c.args.named.now c.args.capability.now None shown
-        (ap (λ w. post_reason e.duration T c.args.now d w c.args.capability.now) is ∙ sym (c.lacks.ensures H c.args.sender d word c.args.capability.now s look.from shown look.delegated) ∙ c.in_default-lacks.is)
-        ∙ ap answer.MessageMade (sym (look.number ∙ ap (λ k. k + 1) s.steps.tree.count)) in
+    (ap (λ w. post_reason e.duration T c.args.now d w c.args.capability.now) is ∙ sym (c.lacks.ensures H c.args.sender d word c.args.capability.now s look.from shown look.delegated) ∙ c.in_default-lacks.is)
+    ∙ ap answer.MessageMade (sym (look.number ∙ ap (λ k. k + 1) s.steps.tree.count)) in
     subst (λ (k : ℕ). IsReplied e u H (timed c.args.now (event.Post c.args.sender c.args.target c.args.named.now c.args.capability.now)) (Ok (record { before = c.in_ok-before.before; answer = answer.MessageMade k; after = c.new.result })))
     (sym c.in_ok-message.ensures.number)
     (posted-reply c.engine_laws.ensures e p u H c.args.now c.args.sender c.args.target x.number c.args.named.now c.args.capability.now h y m N c.in_ok-before.before c.new.result s (c.in_ok-before.ensures.passed H s c.in-Ok.ensures.late)

@@ -1,9 +1,7 @@
-use Rattle.std.proofs.Common.{◌≡◌, ℕ, true, false, ◌==◌, nat_le, None, sym, ◌∙◌, ap, arith}
+use Rattle.std.proofs.Common.{◌≡◌, true, false, ◌==◌, nat_le, sym, ◌∙◌, ap, arith}
 use Rattle.std.proofs.lemmas.Bool.Decides.{nat_tests}
 use Rattle.pe_base.specs.declared.limits.TheConstants.{MESSAGE_LIMIT}
 use Rattle.pe_delegation.specs.Posted.{waiting_count}
-use Rattle.pe_events.specs.declared.event.Event.TheVariants as event
-use Rattle.pe_rules.specs.Causes.{exceeds_pending}
 use Rattle.pe_rules.specs.Replies.{replied}
 use Rattle.pe_engine.specs.declared.verbs.message.Posting.{Posting}
 use Rattle.pe_engine.specs.StandsFor.{EngineValue}
