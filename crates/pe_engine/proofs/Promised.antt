@@ -26,7 +26,7 @@ use Rattle.pe_engine.specs.declared.replies.Replies.{Replies}
 use Rattle.pe_engine.specs.Causes.{time_cause, named_cause, other_cause}
 use Rattle.pe_engine.specs.StandsFor.{EngineValue}
 use Rattle.pe_engine.specs.Replying.{timed, steps_of}
-use Rattle.pe_engine.specs.Stepping.{is_answered, IsReplyBy, IsReply}
+use Rattle.pe_engine.specs.Stepping.{IsReplyBy, IsReply}
 use Rattle.pe_engine.specs.Promises.{NoTestFails, IsFirstFailing, IsAllowedBelow, IsDeniedBelow, IsAllowedIn, IsDeniedIn}
 use Rattle.pe_engine.proofs.CausesParts.{parts}
 use Rattle.pe_engine.proofs.VerbAnswers.{feature-policy}
@@ -169,13 +169,13 @@ module _ (laws : HistoryLaws) where
   -- ---- the clauses of a step
 
   pub clause-allowed : {E : Type 0} (r : Result Replies E) (old new : EngineValue) (H : History) (now : ℕ) (e : Event) (frame : ℕ) (name : List ℕ) → e ≡ event.PolicyOf frame name
-      → (is_answered e ≡ true → IfOk r (IsReply old new H (timed now e))) → IfOk r (λ reply. reply.answer ≡ answer.Allowed → IsAllowedIn (steps_of old H) frame name)
+      → IfOk r (IsReply old new H (timed now e)) → IfOk r (λ reply. reply.answer ≡ answer.Allowed → IsAllowedIn (steps_of old H) frame name)
   clause-allowed (Ok reply) old new H now e frame name is replied_is = λ allowed.
-      reply-allowed old new H now frame name reply (subst (λ v. IsReply old new H (timed now v) reply) is (replied_is (ap is_answered is))) allowed
+      reply-allowed old new H now frame name reply (subst (λ v. IsReply old new H (timed now v) reply) is replied_is) allowed
   clause-allowed (Err x) old new H now e frame name is replied_is = tt
 
   pub clause-denied : {E : Type 0} (r : Result Replies E) (old new : EngineValue) (H : History) (now : ℕ) (e : Event) (frame : ℕ) (name : List ℕ) (why : Denial) → e ≡ event.PolicyOf frame name
-      → (is_answered e ≡ true → IfOk r (IsReply old new H (timed now e))) → IfOk r (λ reply. reply.answer ≡ answer.Denied (reason.Policy why) → IsDeniedIn (steps_of old H) frame name why)
+      → IfOk r (IsReply old new H (timed now e)) → IfOk r (λ reply. reply.answer ≡ answer.Denied (reason.Policy why) → IsDeniedIn (steps_of old H) frame name why)
   clause-denied (Ok reply) old new H now e frame name why is replied_is = λ denied.
-      reply-denied old new H now frame name reply why (subst (λ v. IsReply old new H (timed now v) reply) is (replied_is (ap is_answered is))) denied
+      reply-denied old new H now frame name reply why (subst (λ v. IsReply old new H (timed now v) reply) is replied_is) denied
   clause-denied (Err x) old new H now e frame name why is replied_is = tt

@@ -1,14 +1,12 @@
 //! One event after another.
-ghost use Rattle.std.specs.Prelude.{◌≡◌, ℕ, List, true, false, IfOk, IsOkAnd, Err, OnOk, OnErr, [], ◌∷◌};
+ghost use Rattle.std.specs.Prelude.{◌≡◌, ℕ, List, true, IfOk, IsTrue, OnOk, OnErr, [], ◌∷◌};
 ghost use Rattle.pe_base.specs.declared.denial.Denial.{Denial};
 ghost use Rattle.pe_events.specs.declared.answer.Answer.TheVariants as answer;
-ghost use Rattle.pe_events.specs.declared.cause.Cause.TheVariants as cause;
 ghost use Rattle.pe_events.specs.declared.event.Event.TheVariants as event;
 ghost use Rattle.pe_events.specs.declared.reason.Reason.TheVariants as reason;
 ghost use Rattle.pe_engine.specs.Promises.{IsAllowedIn, IsDeniedIn, AreOfLive};
 ghost use Rattle.pe_engine.specs.Replying.{timed, steps_of, is_plain, IsAnswer, IsReplied};
-ghost use Rattle.pe_engine.specs.Stepping.{is_answered, IsReply, IsSyntaxRefusal};
-ghost use Rattle.pe_engine.specs.declared.refusal.Refusal.TheVariants as refusal;
+ghost use Rattle.pe_engine.specs.Stepping.{IsReply};
 
 use crate::engine::Engine;
 use crate::laws::engine_laws;
@@ -30,8 +28,8 @@ impl Engine {
         stamped: &Stamped<'_>,
         steps: &mut Steps<L>,
     ) -> Result<Answer, Refusal>
-        ensures plain { (H : History) → StandsFor self.old H → is_plain stamped.now.event ≡ true → IsAnswer self.old self.new H (timed stamped.now.time stamped.now.event) result }
-        ensures other { is_plain stamped.now.event ≡ false → (result ≡ Err (refusal.For cause.Syntax)) × (self.new ≡ self.old) }
+        requires plain { IsTrue (is_plain stamped.now.event) }
+        ensures { (H : History) → StandsFor self.old H → IsAnswer self.old self.new H (timed stamped.now.time stamped.now.event) result }
     {
         let now = Millis::of(stamped.time);
         match &stamped.event {
@@ -78,7 +76,7 @@ impl Engine {
             | Event::Answered { .. }
             | Event::SetState { .. }
             | Event::Post { .. }
-            | Event::Deliver { .. } => Err(Refusal::For(Cause::Syntax)),
+            | Event::Deliver { .. } => unreachable!(),
         }
     }
 
@@ -88,8 +86,8 @@ impl Engine {
         stamped: &Stamped<'_>,
         steps: &mut Steps<L>,
     ) -> Result<Replies, Refusal>
-        ensures plain { (H : History) → StandsFor self.old H → is_plain stamped.now.event ≡ true → IsReplied self.old self.new H (timed stamped.now.time stamped.now.event) result }
-        ensures other { is_plain stamped.now.event ≡ false → (result ≡ Err (refusal.For cause.Syntax)) × (self.new ≡ self.old) }
+        requires plain { IsTrue (is_plain stamped.now.event) }
+        ensures { (H : History) → StandsFor self.old H → IsReplied self.old self.new H (timed stamped.now.time stamped.now.event) result }
     {
         engine_laws();
         let answer = match self.answer(stamped, steps) {
@@ -104,14 +102,13 @@ impl Engine {
         })
     }
 
-    /// Takes an event of a verb that is built, or says why it is not accepted.
+    /// Takes an event, or says why it is not accepted.
     fn accept<L: Ledger>(
         &mut self,
         stamped: &Stamped<'_>,
         steps: &mut Steps<L>,
     ) -> Result<Replies, Refusal>
-        ensures built { (H : History) → StandsFor self.old H → is_answered stamped.now.event ≡ true → IsReplied self.old self.new H (timed stamped.now.time stamped.now.event) result }
-        ensures other { is_answered stamped.now.event ≡ false → (result ≡ Err (refusal.For cause.Syntax)) × (self.new ≡ self.old) }
+        ensures { (H : History) → StandsFor self.old H → IsReplied self.old self.new H (timed stamped.now.time stamped.now.event) result }
     {
         let now = Millis::of(stamped.time);
         match &stamped.event {
@@ -178,8 +175,7 @@ impl Engine {
         stamped: &Stamped<'_>,
         steps: &mut Steps<L>,
     ) -> Result<Replies, AllocError>
-        ensures replied { (H : History) → StandsFor self.old H → is_answered stamped.now.event ≡ true → IfOk result (IsReply self.old self.new H (timed stamped.now.time stamped.now.event)) }
-        ensures other { self.old.failed ≡ false → is_answered stamped.now.event ≡ false → IsOkAnd result (λ r. IsSyntaxRefusal r × (self.new ≡ self.old)) }
+        ensures replied { (H : History) → StandsFor self.old H → IfOk result (IsReply self.old self.new H (timed stamped.now.time stamped.now.event)) }
         ensures once_failed { self.old.failed ≡ true → OnOk result ⊥ × (self.new ≡ self.old) }
         ensures fails { OnErr result (self.new.failed ≡ true) }
     {
@@ -197,22 +193,20 @@ impl Engine {
     }
 
     /// Takes an event. It is accepted, and answered after those before it, or refused for the first
-    /// cause that applies, which changes nothing. An event of a verb that is not built is refused as no
-    /// line of the grammar. `AllocError` where memory wants, now or in an earlier call.
+    /// cause that applies, which changes nothing. `AllocError` where memory wants, now or in an earlier call.
     pub fn step<L: Ledger>(
         &mut self,
         stamped: &Stamped<'_>,
         steps: &mut Steps<L>,
     ) -> Result<Replies, AllocError>
-        ensures replied { (H : History) → StandsFor self.old H → is_answered stamped.now.event ≡ true → IfOk result (IsReply self.old self.new H (timed stamped.now.time stamped.now.event)) }
-        ensures other { self.old.failed ≡ false → is_answered stamped.now.event ≡ false → IsOkAnd result (λ r. IsSyntaxRefusal r × (self.new ≡ self.old)) }
+        ensures replied { (H : History) → StandsFor self.old H → IfOk result (IsReply self.old self.new H (timed stamped.now.time stamped.now.event)) }
         ensures once_failed { self.old.failed ≡ true → OnOk result ⊥ × (self.new ≡ self.old) }
         ensures fails { OnErr result (self.new.failed ≡ true) }
 
         // Each change names a status that is live: one that the time brings before the event, and one that
         // the event brings before it and, where it is accepted, after it.
-        ensures before { (H : History) → StandsFor self.old H → is_answered stamped.now.event ≡ true → IfOk result (λ r. AreOfLive (steps_of self.old H) r.before.items) }
-        ensures after { (H : History) → StandsFor self.old H → is_answered stamped.now.event ≡ true
+        ensures before { (H : History) → StandsFor self.old H → IfOk result (λ r. AreOfLive (steps_of self.old H) r.before.items) }
+        ensures after { (H : History) → StandsFor self.old H
             → IfOk result (λ r. AreOfLive (steps_of self.old H) r.after.items × AreOfLive (steps_of self.old (timed stamped.now.time stamped.now.event ∷ H)) r.after.items) }
 
         // What the policy's answers say of each document from the page's top one down.

@@ -1,7 +1,7 @@
 -- What a run has written, by the script that the source told.
 use Rattle.std.proofs.Common.{◌≡◌, ◌≢◌, ℕ, ◌<◌, ◌≤◌, ◌⊎◌, Bool, List, ◌++◌, Option, Some, None, IfSome, length, ap, ◌∙◌, refl, append-nil, subst, inl, inr, arith, length-append}
 use Rattle.std.specs.Io.KnownBytes.{Appends, Consumes, IsAtEnd}
-use Rattle.pe_output.specs.Built.{built_text, built_refuses}
+use Rattle.pe_output.specs.OutputText.{output_text, refuses_some}
 use Rattle.pe_session.specs.declared.status.Status.{Status}
 use Rattle.pe_session.specs.declared.status.Status.TheVariants.{Clean, Refusals, Words, ReadFault, WriteFault, Memory, InputTooLong}
 use Rattle.pe_session.specs.Outcome.{IsCutShort, IsWhole, Wrote, IsWholeStatus, IsCutStatus, says_refused, AppendsPrefix}
@@ -13,27 +13,27 @@ at-end script (Some rest) taken given e = given ∙ ap (λ l. taken ++ l) e ∙ 
 -- the whole text is that of the script
 whole-script : (duration limit : ℕ) (script : List ℕ) (left old new : Option (List ℕ)) (taken wrote : List ℕ) (refused : Bool)
     → Consumes (Some script) left taken → Appends old new wrote → IsWhole duration limit taken left wrote refused
-    → (length script ≤ limit) × Appends old new (built_text duration script) × (built_refuses duration script ≡ refused)
+    → (length script ≤ limit) × Appends old new (output_text duration script) × (refuses_some duration script ≡ refused)
 whole-script duration limit script left old new taken wrote refused given put w =
     rw (at-end script left taken given w.ended) (w.within, subst (Appends old new) w.text put, w.refused_is)
 
 pub whole-clause : (duration : ℕ) (status : Status) (limit : ℕ) (had left old new : Option (List ℕ)) (taken wrote : List ℕ)
     → Consumes had left taken → Appends old new wrote → Wrote duration status limit taken left wrote → IsWholeStatus status
-    → IfSome had (λ script. (length script ≤ limit) × Appends old new (built_text duration script) × (built_refuses duration script ≡ says_refused status))
+    → IfSome had (λ script. (length script ≤ limit) × Appends old new (output_text duration script) × (refuses_some duration script ≡ says_refused status))
 whole-clause duration status limit None left old new taken wrote given put w is = tt
 whole-clause duration Clean limit (Some script) left old new taken wrote given put w is = whole-script duration limit script left old new taken wrote _ given put w
 whole-clause duration Refusals limit (Some script) left old new taken wrote given put w is = whole-script duration limit script left old new taken wrote _ given put w
 whole-clause duration status limit (Some script) left old new taken wrote given put w is = absurd is
 
 cut-script : (duration : ℕ) (script : List ℕ) (left old new : Option (List ℕ)) (taken wrote : List ℕ)
-    → Consumes (Some script) left taken → Appends old new wrote → IsCutShort duration taken left wrote → AppendsPrefix old new (built_text duration script)
+    → Consumes (Some script) left taken → Appends old new wrote → IsCutShort duration taken left wrote → AppendsPrefix old new (output_text duration script)
 cut-script duration script None old new taken wrote given put w = absurd given
 cut-script duration script (Some more) old new taken wrote given put w =
-    let (rest, e) = w.front in (wrote, rest, ap (built_text duration) given ∙ e, put)
+    let (rest, e) = w.front in (wrote, rest, ap (output_text duration) given ∙ e, put)
 
 pub cut-clause : (duration : ℕ) (status : Status) (limit : ℕ) (had left old new : Option (List ℕ)) (taken wrote : List ℕ)
     → Consumes had left taken → Appends old new wrote → Wrote duration status limit taken left wrote → IsCutStatus status
-    → IfSome had (λ script. AppendsPrefix old new (built_text duration script))
+    → IfSome had (λ script. AppendsPrefix old new (output_text duration script))
 cut-clause duration status limit None left old new taken wrote given put w is = tt
 cut-clause duration WriteFault limit (Some script) left old new taken wrote given put w is = cut-script duration script left old new taken wrote given put w
 cut-clause duration Memory limit (Some script) left old new taken wrote given put w is = cut-script duration script left old new taken wrote given put w

@@ -18,9 +18,8 @@ use Rattle.pe_rules.specs.Replies.{replied, accepts_in, reply_in, answer_of}
 use Rattle.pe_engine.specs.declared.replies.Replies.{Replies}
 use Rattle.pe_engine.specs.StandsFor.{EngineValue, StandsFor}
 use Rattle.pe_engine.specs.Replying.{IsAcceptedReply}
-use Rattle.pe_engine.specs.Stepping.{is_answered, IsRefusedReply, IsReplyBy, IsReply, IsSyntaxRefusal}
-use Rattle.pe_output.specs.Built.{is_built_event, as_built, reading_built}
-use Rattle.pe_output.specs.OutputText.{changes_text, event_text, line_text, history_after, history_after_line, is_refused}
+use Rattle.pe_engine.specs.Stepping.{IsRefusedReply, IsReplyBy, IsReply}
+use Rattle.pe_output.specs.OutputText.{reading_or_too_long, changes_text, event_text, line_text, history_after, history_after_line, is_refused}
 use Rattle.pe_session.specs.Judging.{is_refusal, replies_text, Stands, Judged}
 use Rattle.pe_session.proofs.Answered.{not-refused}
 
@@ -61,20 +60,16 @@ history-refused duration H e why c = rw (refused-is duration H e why c) refl
 
 -- ---- how a line reads
 
-pub too-long-reading : (line : Cut) → line ≡ cut.TooLong → reading_built (line_of_cut line) ≡ Refusal cause.LineTooLong
-unfolding reading_built
+pub too-long-reading : (line : Cut) → line ≡ cut.TooLong → reading_or_too_long (line_of_cut line) ≡ Refusal cause.LineTooLong
 too-long-reading line is = rw is refl
 
-pub silent-reading : (line : Cut) (bytes : List ℕ) → line_of_cut line ≡ Some bytes → reading_of bytes ≡ Silent → reading_built (line_of_cut line) ≡ Silent
-unfolding reading_built
+pub silent-reading : (line : Cut) (bytes : List ℕ) → line_of_cut line ≡ Some bytes → reading_of bytes ≡ Silent → reading_or_too_long (line_of_cut line) ≡ Silent
 silent-reading line bytes is reading = rw (is, reading) refl
 
-pub refusal-reading : (line : Cut) (bytes : List ℕ) (why : Cause) → line_of_cut line ≡ Some bytes → reading_of bytes ≡ Refusal why → reading_built (line_of_cut line) ≡ Refusal why
-unfolding reading_built
+pub refusal-reading : (line : Cut) (bytes : List ℕ) (why : Cause) → line_of_cut line ≡ Some bytes → reading_of bytes ≡ Refusal why → reading_or_too_long (line_of_cut line) ≡ Refusal why
 refusal-reading line bytes why is reading = rw (is, reading) refl
 
-pub event-reading : (line : Cut) (bytes : List ℕ) (e : Timed) → line_of_cut line ≡ Some bytes → reading_of bytes ≡ Says e → reading_built (line_of_cut line) ≡ as_built (Says e)
-unfolding reading_built
+pub event-reading : (line : Cut) (bytes : List ℕ) (e : Timed) → line_of_cut line ≡ Some bytes → reading_of bytes ≡ Says e → reading_or_too_long (line_of_cut line) ≡ Says e
 event-reading line bytes e is reading = rw (is, reading) refl
 
 -- ---- lines that say no event
@@ -132,28 +127,6 @@ judged-reply : (engine next : EngineValue) (number : ℕ) (H : History) (e : Tim
 judged-reply engine next number H e reply out new None c stands is text = judged-accepted engine next number H e reply out new c is text
 judged-reply engine next number H e reply out new (Some why) c stands is text = judged-refused engine next number H e reply out new why c stands is text
 
--- the engine answers the verbs that are built
-answered-is-built : (e : Event) → is_answered e ≡ is_built_event e
-answered-is-built (event.OpenPage url header) = refl
-answered-is-built (event.Embed parent src place allow sandbox fullscreen srcdoc header) = refl
-answered-is-built (event.Navigate frame url header) = refl
-answered-is-built (event.Attr frame name value) = refl
-answered-is-built (event.Close frame) = refl
-answered-is-built (event.Input frame kind) = refl
-answered-is-built (event.Ask frame) = refl
-answered-is-built (event.History frame) = refl
-answered-is-built (event.PolicyOf frame feature) = refl
-answered-is-built (event.Features frame) = refl
-answered-is-built (event.UseCall frame call) = refl
-answered-is-built (event.Query frame feature) = refl
-answered-is-built (event.DropStatus status) = refl
-answered-is-built (event.Request frame feature) = refl
-answered-is-built (event.Answered prompt out given) = refl
-answered-is-built (event.SetState feature first second state span) = refl
-answered-is-built (event.Post sender target named capability) = refl
-answered-is-built (event.Deliver m) = refl
-answered-is-built event.Tick = refl
-
 pub if-none : {A : Type 0} (o : Option A) (P : Type 0) → o ≡ None → IfNone o P → P
 if-none None P e h = h
 if-none (Some x) P e h = cc
@@ -162,16 +135,7 @@ pub if-some : {A : Type 0} (o : Option A) (x : A) (P : A → Type 0) → o ≡ S
 if-some o x P e h = subst (λ p. IfSome p P) e h
 
 -- an event, by what the engine replied
-pub judged-event : (duration : ℕ) (engine next : EngineValue) (number : ℕ) (H : History) (e : Timed) (reply : Replies) (out new : List ℕ) → Stands duration engine H
-    → (is_answered e.event ≡ true → IsReply engine next H e reply) → (is_answered e.event ≡ false → IsSyntaxRefusal reply × (next ≡ engine))
-    → new ≡ out ++ replies_text number reply → Judged duration next number H (as_built (Says e)) out new (is_refusal reply.answer)
-judged-event duration engine next number H e reply out new h replied_is other text = by_test (is_built_event e.event) refl
-  where
-    by_test : (b : Bool) → is_built_event e.event ≡ b → Judged duration next number H (cond b (Says e) (Refusal cause.Syntax)) out new (is_refusal reply.answer)
-    by_test true is =
-        subst (λ d. Judged d next number H (Says e) out new (is_refusal reply.answer)) h.lasts
-        (judged-reply engine next number H e reply out new _ refl h.engine_stands (replied_is (answered-is-built e.event ∙ is)) text)
-    by_test false is =
-        let (r, same) = other (answered-is-built e.event ∙ is) in
-        judged-refusal duration next number H (Refusal cause.Syntax) out new _ cause.Syntax (rw same h) refl
-        (alone number reply out new r.before r.after text ∙ ap (λ a. out ++ answer_text number a) r.says) (ap is_refusal r.says)
+pub judged-event : (duration : ℕ) (engine next : EngineValue) (number : ℕ) (H : History) (e : Timed) (reply : Replies) (out new : List ℕ) → Stands duration engine H → IsReply engine next H e reply
+    → new ≡ out ++ replies_text number reply → Judged duration next number H (Says e) out new (is_refusal reply.answer)
+judged-event duration engine next number H e reply out new h replied_is text =
+    subst (λ d. Judged d next number H (Says e) out new (is_refusal reply.answer)) h.lasts (judged-reply engine next number H e reply out new _ refl h.engine_stands replied_is text)

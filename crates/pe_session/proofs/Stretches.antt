@@ -6,11 +6,10 @@ use Rattle.pe_lines.specs.declared.cutter.Cut.{Cut}
 use Rattle.pe_lines.specs.Lines.{lines, ended_lines, lines_or_too_long, ended_lines_or_too_long}
 use Rattle.pe_lines.specs.Rests.{Rest}
 use Rattle.pe_lines.specs.Cutting.{Cuts, TakesLine, TakesLast, HasNoLine, IsNext, line_of_cut}
-use Rattle.pe_output.specs.Built.{reading_built, built_text, built_ended_text, built_refuses}
-use Rattle.pe_output.specs.OutputText.{line_text, text_from, refuses_from}
+use Rattle.pe_output.specs.OutputText.{reading_or_too_long, output_text, ended_text, refuses_some, line_text, text_from, refuses_from, readings}
 use Rattle.pe_engine.specs.StandsFor.{EngineValue}
 use Rattle.pe_session.specs.Judging.{Stands, Judged}
-use Rattle.pe_session.specs.Session.{history_after_lines, readings, HasJudged, Adds, AddsLast}
+use Rattle.pe_session.specs.Session.{history_after_lines, HasJudged, Adds, AddsLast}
 use Rattle.pe_session.proofs.Texts.{text-append, history-append, refuses-append, text-one, refuses-one, length-readings}
 
 -- ---- how `Cuts` goes on
@@ -93,10 +92,10 @@ pub piece-went : (duration n : ℕ) (engine : EngineValue) (taken piece old new 
     → old ≡ [] → was ≡ refuses_from duration [] (readings (ended_lines_or_too_long taken))
     → Stands duration engine (history_after_lines duration [] (readings (ended_lines_or_too_long (taken ++ piece))))
     × Adds duration taken piece new × (refused ≡ refuses_from duration [] (readings (ended_lines_or_too_long (taken ++ piece))))
-unfolding built_ended_text
+unfolding ended_text
 piece-went duration n engine taken piece old new was refused done e at_line w empty flag =
     let before = ended_lines_or_too_long taken in
-    let split : readings (ended_lines_or_too_long (taken ++ piece)) ≡ readings before ++ readings done = ap readings e ∙ map-append reading_built before done in
+    let split : readings (ended_lines_or_too_long (taken ++ piece)) ≡ readings before ++ readings done = ap readings e ∙ map-append reading_or_too_long before done in
     let line : n ≡ 1 + length (readings before) = rw (length-readings before) at_line in
     let G = history_after_lines duration [] (readings before) in
     rw split (
@@ -109,15 +108,15 @@ piece-went duration n engine taken piece old new was refused done e at_line w em
 
 pub last-some : (duration n : ℕ) (engine : EngineValue) (taken old new out text : List ℕ) (line : Option (List ℕ)) (was refused now : Bool)
     → Cuts taken (ended_lines_or_too_long taken) old → TakesLast old new line → n ≡ 1 + length (ended_lines_or_too_long taken)
-    → Judged duration engine n (history_after_lines duration [] (readings (ended_lines_or_too_long taken))) (reading_built line) out text refused
+    → Judged duration engine n (history_after_lines duration [] (readings (ended_lines_or_too_long taken))) (reading_or_too_long line) out text refused
     → out ≡ [] → was ≡ refuses_from duration [] (readings (ended_lines_or_too_long taken)) → now ≡ (was || refused)
-    → AddsLast duration taken text × (now ≡ built_refuses duration taken)
-unfolding built_text built_ended_text built_refuses
+    → AddsLast duration taken text × (now ≡ refuses_some duration taken)
+unfolding output_text ended_text refuses_some
 last-some duration n engine taken old new out text line was refused now h t at_line j empty flag is =
     let before = ended_lines_or_too_long taken in
-    let r = reading_built line in
+    let r = reading_or_too_long line in
     let G = history_after_lines duration [] (readings before) in
-    let split : readings (lines_or_too_long taken) ≡ readings before ++ r ∷ [] = ap readings (Cuts-last taken before old new line h t) ∙ map-append reading_built before (line ∷ []) in
+    let split : readings (lines_or_too_long taken) ≡ readings before ++ r ∷ [] = ap readings (Cuts-last taken before old new line h t) ∙ map-append reading_or_too_long before (line ∷ []) in
     let later : n ≡ 1 + length (readings before) = rw (length-readings before) at_line in
     rw split (
       text-append duration 1 n [] (readings before) (r ∷ []) later
@@ -127,8 +126,8 @@ last-some duration n engine taken old new out text line was refused now h t at_l
     )
 
 pub last-none : (duration : ℕ) (taken old out : List ℕ) (was : Bool) → Cuts taken (ended_lines_or_too_long taken) old → old ≡ [] → out ≡ [] → was ≡ refuses_from duration [] (readings (ended_lines_or_too_long taken))
-    → AddsLast duration taken out × (was ≡ built_refuses duration taken)
-unfolding built_text built_ended_text built_refuses
+    → AddsLast duration taken out × (was ≡ refuses_some duration taken)
+unfolding output_text ended_text refuses_some
 last-none duration taken old out was h e empty flag =
     let all : lines_or_too_long taken ≡ ended_lines_or_too_long taken = Cuts-all taken (ended_lines_or_too_long taken) (rw e at h) in
     rw (all, empty) (sym (append-nil _), flag)

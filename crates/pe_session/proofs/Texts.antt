@@ -4,11 +4,10 @@ use Rattle.std.proofs.lemmas.List.{map-append}
 use Rattle.std.specs.Prelude.{◌||◌}
 use Rattle.pe_rules.specs.History.{History}
 use Rattle.pe_script.specs.Reading.{Reading}
-use Rattle.pe_output.specs.Built.{reading_built}
-use Rattle.pe_output.specs.OutputText.{line_text, history_after_line, is_refused, text_from, refuses_from}
+use Rattle.pe_output.specs.OutputText.{reading_or_too_long, line_text, history_after_line, is_refused, text_from, refuses_from, readings}
 use Rattle.pe_engine.specs.StandsFor.{EngineValue}
 use Rattle.pe_session.specs.Judging.{Stands, Judged}
-use Rattle.pe_session.specs.Session.{history_after_lines, readings, HasJudged}
+use Rattle.pe_session.specs.Session.{history_after_lines, HasJudged}
 
 pub text-append : (duration n m : ℕ) (H : History) (ls more : List Reading) → m ≡ n + length ls
     → text_from duration n H (ls ++ more) ≡ text_from duration n H ls ++ text_from duration m (history_after_lines duration H ls) more
@@ -71,12 +70,12 @@ Went-none duration n engine H out refused h = record {
 -- one line on
 pub Went-more : (duration n m : ℕ) (engine next : EngineValue) (H : History) (old mid new : List ℕ) (was mid_refused now refused : Bool) (done : List (Option (List ℕ))) (line : Option (List ℕ))
     → m ≡ n + length done → HasJudged duration engine n H old mid was mid_refused done
-    → Judged duration next m (history_after_lines duration H (readings done)) (reading_built line) mid new refused
+    → Judged duration next m (history_after_lines duration H (readings done)) (reading_or_too_long line) mid new refused
     → now ≡ (mid_refused || refused) → HasJudged duration next n H old new was now (done ++ line ∷ [])
 Went-more duration n m engine next H old mid new was mid_refused now refused done line e w j is =
     let G = history_after_lines duration H (readings done) in
-    let r = reading_built line in
-    let split : readings (done ++ line ∷ []) ≡ readings done ++ r ∷ [] = map-append reading_built done (line ∷ []) in
+    let r = reading_or_too_long line in
+    let split : readings (done ++ line ∷ []) ≡ readings done ++ r ∷ [] = map-append reading_or_too_long done (line ∷ []) in
     let later : m ≡ n + length (readings done) = rw (length-readings done) e in
     record {
       stands = rw (split, history-append duration H (readings done) (r ∷ [])) j.stands;

@@ -3,7 +3,7 @@
 -- What is taken is what the source gave in this call; what it has left is known where the source tells its bytes.
 use Rattle.std.specs.Prelude.{◌≡◌, ℕ, ◌-◌, ◌<◌, ◌≤◌, Bool, true, false, List, ◌++◌, length, take, Option, IfSome}
 use Rattle.std.specs.Io.KnownBytes.{IsAtEnd, Appends}
-use Rattle.pe_output.specs.Built.{built_text, built_ended_text, built_refuses}
+use Rattle.pe_output.specs.OutputText.{output_text, ended_text, refuses_some}
 use Rattle.pe_session.specs.declared.status.Status.{Status}
 use Rattle.pe_session.specs.declared.status.Status.TheVariants.{Clean, Refusals, Words, ReadFault, WriteFault, Memory, InputTooLong}
 
@@ -13,27 +13,27 @@ IsPrefix front all = (rest : List ℕ) × (all ≡ front ++ rest)
 
 -- a front of the whole text was written, with the text of each line that a line feed ended before the last 65,536 bytes taken
 pub record IsCutShort (duration : ℕ) (taken : List ℕ) (left : Option (List ℕ)) (wrote : List ℕ) : Type 0 where
-  pub front : IfSome left (λ more. IsPrefix wrote (built_text duration (taken ++ more)))
-  pub enough : IsPrefix (built_ended_text duration (take (length taken - 65536) taken)) wrote
+  pub front : IfSome left (λ more. IsPrefix wrote (output_text duration (taken ++ more)))
+  pub enough : IsPrefix (ended_text duration (take (length taken - 65536) taken)) wrote
 
 -- the input was taken to its end and is within the limit, and the whole text was written
 pub record IsWhole (duration limit : ℕ) (taken : List ℕ) (left : Option (List ℕ)) (wrote : List ℕ) (refused : Bool) : Type 0 where
   pub ended : IsAtEnd left
   pub within : length taken ≤ limit
-  pub text : wrote ≡ built_text duration taken
-  pub refused_is : built_refuses duration taken ≡ refused
+  pub text : wrote ≡ output_text duration taken
+  pub refused_is : refuses_some duration taken ≡ refused
 
 -- more bytes than the limit were taken, and the text of the lines that a line feed ended within it was written
 pub record IsTooLong (duration limit : ℕ) (taken wrote : List ℕ) : Type 0 where
   pub over : limit < length taken
-  pub text : wrote ≡ built_ended_text duration (take limit taken)
+  pub text : wrote ≡ ended_text duration (take limit taken)
 
 -- what a run took, left and wrote, by its status
 abbrev pub Wrote : ℕ → Status → ℕ → List ℕ → Option (List ℕ) → List ℕ → Type 0
 Wrote duration Clean limit taken left wrote = IsWhole duration limit taken left wrote false
 Wrote duration Refusals limit taken left wrote = IsWhole duration limit taken left wrote true
 Wrote duration Words limit taken left wrote = ⊥
-Wrote duration ReadFault limit taken left wrote = wrote ≡ built_ended_text duration taken
+Wrote duration ReadFault limit taken left wrote = wrote ≡ ended_text duration taken
 Wrote duration WriteFault limit taken left wrote = IsCutShort duration taken left wrote
 Wrote duration Memory limit taken left wrote = IsCutShort duration taken left wrote
 Wrote duration InputTooLong limit taken left wrote = IsTooLong duration limit taken wrote

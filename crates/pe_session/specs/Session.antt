@@ -6,8 +6,7 @@ use Rattle.pe_lines.specs.Cutting.{Cuts}
 use Rattle.pe_lines.specs.Lines.{ended_lines_or_too_long}
 use Rattle.pe_rules.specs.History.{History}
 use Rattle.pe_script.specs.Reading.{Reading}
-use Rattle.pe_output.specs.Built.{reading_built, built_text, built_ended_text}
-use Rattle.pe_output.specs.OutputText.{history_after_line, text_from, refuses_from}
+use Rattle.pe_output.specs.OutputText.{output_text, ended_text, history_after_line, text_from, refuses_from, readings}
 use Rattle.pe_engine.specs.StandsFor.{EngineValue}
 use Rattle.pe_session.specs.declared.session.Session.{Session}
 use Rattle.pe_session.specs.Judging.{Stands}
@@ -16,10 +15,6 @@ use Rattle.pe_session.specs.Judging.{Stands}
 abbrev pub history_after_lines : ℕ → History → List Reading → History
 history_after_lines duration H [] = H
 history_after_lines duration H (line ∷ lines) = history_after_lines duration (history_after_line duration H line) lines
-
--- the readings of lines
-abbrev pub readings : List (Option (List ℕ)) → List Reading
-readings lines = map reading_built lines
 
 -- these lines were judged, the first of which has this number
 pub record HasJudged (duration : ℕ) (engine : EngineValue) (number : ℕ) (H : History) (old new : List ℕ) (was refused : Bool) (done : List (Option (List ℕ))) : Type 0 where
@@ -39,8 +34,8 @@ pub record HasTaken (duration : ℕ) (session : Session) (taken : List ℕ) : Ty
 
 -- the text of the lines that a piece ended
 abbrev pub Adds : ℕ → List ℕ → List ℕ → List ℕ → Type 0
-Adds duration taken piece text = built_ended_text duration (taken ++ piece) ≡ built_ended_text duration taken ++ text
+Adds duration taken piece text = ended_text duration (taken ++ piece) ≡ ended_text duration taken ++ text
 
 -- the text of a last line that no line feed ended
 abbrev pub AddsLast : ℕ → List ℕ → List ℕ → Type 0
-AddsLast duration taken text = built_text duration taken ≡ built_ended_text duration taken ++ text
+AddsLast duration taken text = output_text duration taken ≡ ended_text duration taken ++ text

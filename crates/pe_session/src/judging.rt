@@ -2,13 +2,12 @@
 ghost use Rattle.std.specs.Prelude.{◌≡◌, ◌↔◌, ℕ, ◌++◌, ◌<◌, true, false, IfOk, OnOk, IsOkAnd, OnErr};
 ghost use Rattle.pe_engine.specs.StandsFor.{StandsFor};
 ghost use Rattle.pe_engine.specs.Replying.{timed};
-ghost use Rattle.pe_engine.specs.Stepping.{is_answered, IsReply, IsSyntaxRefusal};
+ghost use Rattle.pe_engine.specs.Stepping.{IsReply};
 ghost use Rattle.pe_lines.specs.Cutting.{line_of_cut};
 ghost use Rattle.pe_rules.specs.History.{History};
 ghost use Rattle.pe_script.specs.Answering.{told};
 ghost use Rattle.pe_script.specs.Reading.{Says};
-ghost use Rattle.pe_output.specs.Built.{as_built, reading_built};
-ghost use Rattle.pe_output.specs.OutputText.{changes_text, refusal_text};
+ghost use Rattle.pe_output.specs.OutputText.{reading_or_too_long, changes_text, refusal_text};
 ghost use Rattle.pe_session.specs.Judging.{is_refusal, replies_text, Stands, Judged};
 
 use pe_base::Steps;
@@ -29,7 +28,7 @@ pub fn judge(
     out: &mut Vec<u8>,
 ) -> Result<bool, AllocError>
     ensures ok { (duration : ℕ) (H : History) → Stands duration engine.old H → IfOk result (λ refused.
-        Judged duration engine.new number H (reading_built (line_of_cut line.entry)) out.old.items out.new.items refused) }
+        Judged duration engine.new number H (reading_or_too_long (line_of_cut line.entry)) out.old.items out.new.items refused) }
 {
     let line = match line {
         Cut::TooLong => return put_refusal(number, Cause::LineTooLong, out),
@@ -62,7 +61,7 @@ fn judge_event(
     out: &mut Vec<u8>,
 ) -> Result<bool, AllocError>
     ensures { (duration : ℕ) (H : History) → Stands duration engine.old H → IfOk result (λ refused.
-        Judged duration engine.new number H (as_built (Says (told stamped.entry))) out.old.items out.new.items refused) }
+        Judged duration engine.new number H (Says (told stamped.entry)) out.old.items out.new.items refused) }
 {
     let replies = reply::<Brand>(engine, stamped, Blank::new(1))?;
     put_replies(number, &replies, out)?;
@@ -78,8 +77,7 @@ fn reply<L: Ledger>(
     requires name { blank.name ≡ L.name }
     requires parts { blank.parts ≡ L.parts }
     requires some { 0 < blank.parts }
-    ensures replied { (H : History) → StandsFor engine.old H → is_answered stamped.entry.event ≡ true → IfOk result (IsReply engine.old engine.new H (timed stamped.entry.time stamped.entry.event)) }
-    ensures other { engine.old.failed ≡ false → is_answered stamped.entry.event ≡ false → IsOkAnd result (λ r. IsSyntaxRefusal r × (engine.new ≡ engine.old)) }
+    ensures replied { (H : History) → StandsFor engine.old H → IfOk result (IsReply engine.old engine.new H (timed stamped.entry.time stamped.entry.event)) }
 {
     let mut steps: Steps<L> = Steps::start(blank);
     engine.step(&stamped, &mut steps)

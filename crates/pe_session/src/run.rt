@@ -1,7 +1,7 @@
 //! The whole run.
 ghost use Rattle.std.specs.Prelude.{◌≡◌, ◌≢◌, ◌-◌, ◌^◌, ◌<◌, ◌≤◌, ◌⊎◌, List, ℕ, [], length, IfOk, IfSome};
 ghost use Rattle.std.specs.Io.KnownBytes.{Appends, Consumes};
-ghost use Rattle.pe_output.specs.Built.{built_text, built_refuses};
+ghost use Rattle.pe_output.specs.OutputText.{output_text, refuses_some};
 ghost use Rattle.pe_session.specs.Outcome.{
   Wrote,
   IsWholeStatus,
@@ -53,10 +53,10 @@ pub fn run_within<S: Source, K: Sink>(
 
     // The same by the script, where the source tells it.
     ensures whole { IsWholeStatus result → IfSome (S.left source.old) (λ script. (length script ≤ limit)
-        × Appends (K.written sink.old) (K.written sink.new) (built_text duration script)
-        × (built_refuses duration script ≡ says_refused result)) }
+        × Appends (K.written sink.old) (K.written sink.new) (output_text duration script)
+        × (refuses_some duration script ≡ says_refused result)) }
     ensures cut_short { IsCutStatus result → IfSome (S.left source.old) (λ script.
-        AppendsPrefix (K.written sink.old) (K.written sink.new) (built_text duration script)) }
+        AppendsPrefix (K.written sink.old) (K.written sink.new) (output_text duration script)) }
     ensures too_long { result ≡ Status.InputTooLong → IfSome (S.left source.old) (λ script. limit < length script) }
 
     // Where no count rose, only memory stops the run.

@@ -17,7 +17,7 @@ ghost use Rattle.std.specs.Prelude.{
 };
 ghost use Rattle.std.specs.Io.KnownBytes.{Appends, Consumes};
 ghost use Rattle.std.specs.String.{string_bytes};
-ghost use Rattle.pe_output.specs.Built.{built_text, built_refuses};
+ghost use Rattle.pe_output.specs.OutputText.{output_text, refuses_some};
 ghost use Rattle.pe_session.specs.Outcome.{Wrote, IsWholeStatus, IsCutStatus, says_refused, AppendsPrefix};
 ghost use Rattle.pe_session.specs.Words.{duration_asked, duration_of, Explains};
 
@@ -92,10 +92,10 @@ pub fn serve<S: Source, K: Sink>(
     // The same by the script, where the source tells it.
     ensures whole { (duration : ℕ) → duration_asked (map string_bytes words.now) ≡ Some duration → IsWholeStatus result →
         IfSome (S.left source.old) (λ script. (length script ≤ 1073741824)
-        × Appends (K.written sink.old) (K.written sink.new) (built_text duration script)
-        × (built_refuses duration script ≡ says_refused result)) }
+        × Appends (K.written sink.old) (K.written sink.new) (output_text duration script)
+        × (refuses_some duration script ≡ says_refused result)) }
     ensures cut_short { (duration : ℕ) → duration_asked (map string_bytes words.now) ≡ Some duration → IsCutStatus result →
-        IfSome (S.left source.old) (λ script. AppendsPrefix (K.written sink.old) (K.written sink.new) (built_text duration script)) }
+        IfSome (S.left source.old) (λ script. AppendsPrefix (K.written sink.old) (K.written sink.new) (output_text duration script)) }
     ensures complete { (duration : ℕ) → duration_asked (map string_bytes words.now) ≡ Some duration →
         S.faults source.new ≡ S.faults source.old → K.faults sink.new ≡ K.faults sink.old →
         IfSome (S.left source.old) (λ script. length script ≤ 1073741824 → IsWholeStatus result ⊎ (result ≡ Status.Memory)) }

@@ -38,7 +38,7 @@ impl Session {
     ghost use Rattle.pe_lines.specs.Cutting.{Cuts};
     ghost use Rattle.pe_lines.specs.Lines.{ended_lines_or_too_long};
     ghost use Rattle.pe_rules.specs.History.{History};
-    ghost use Rattle.pe_output.specs.Built.{built_refuses};
+    ghost use Rattle.pe_output.specs.OutputText.{refuses_some};
     ghost use Rattle.pe_session.specs.Judging.{Stands};
     ghost use Rattle.pe_session.specs.Session.{HasJudged, HasTaken, Adds, AddsLast};
 
@@ -121,7 +121,7 @@ impl Session {
     fn judge_last(&mut self) -> Result<(), AllocError>
         requires open { self.old.cutter.finished ≡ false }
         ensures ok { OnOk result ((duration : ℕ) (taken : List ℕ) → HasTaken duration self.old taken → AddsLast duration taken self.new.out.items
-            × (self.new.refused ≡ built_refuses duration taken)) }
+            × (self.new.refused ≡ refuses_some duration taken)) }
     {
         self.cutter.finish();
         match self.cutter.next_line() {
@@ -144,7 +144,7 @@ impl Session {
     pub fn end<K: Sink>(&mut self, sink: &mut K) -> Result<(), Stop>
         requires open { self.old.cutter.finished ≡ false }
         requires count { K.faults sink.old < 2 ^ 64 - 1 }
-        ensures ok { OnOk result ((duration : ℕ) (taken : List ℕ) → HasTaken duration self.old taken → (self.new.refused ≡ built_refuses duration taken)
+        ensures ok { OnOk result ((duration : ℕ) (taken : List ℕ) → HasTaken duration self.old taken → (self.new.refused ≡ refuses_some duration taken)
             × ((text : List ℕ) × AddsLast duration taken text × Appends (K.written sink.old) (K.written sink.new) text)) }
         ensures kept { OnOk result (K.faults sink.new ≡ K.faults sink.old) }
         ensures memory { IsErrOf result Stop.Memory → sink.new ≡ sink.old }

@@ -56,7 +56,12 @@ impl Engine {
     }
 
     /// The state that is stored for a pair.
-    pub(crate) fn stored<L: Ledger>(&self, feature: Feature, key: &Key, steps: &mut Steps<L>) -> Option<State>
+    pub(crate) fn stored<L: Ledger>(
+        &self,
+        feature: Feature,
+        key: &Key,
+        steps: &mut Steps<L>,
+    ) -> Option<State>
         ensures { result ≡ option_map (λ e. e.state) (store.entry_of self.now.store.entries (feature, key.now)) }
     {
         let entry = self.store.get(feature, key, steps)?;

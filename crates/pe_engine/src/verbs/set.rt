@@ -41,7 +41,10 @@ fn origin_named(alloc: Global, word: &[u8]) -> Result<Origin, Refusal>
 }
 
 /// The tuple origin of an origin word, where there is one.
-pub(crate) fn origin_given(alloc: Global, word: &Option<Text<'_>>) -> Result<Option<Origin>, Refusal>
+pub(crate) fn origin_given(
+    alloc: Global,
+    word: &Option<Text<'_>>,
+) -> Result<Option<Origin>, Refusal>
     ensures { GivesOriginOrNone word.now result }
 {
     match word {

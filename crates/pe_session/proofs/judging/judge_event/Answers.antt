@@ -7,6 +7,4 @@ returns c = λ duration H h.
     let e = timed c.args.stamped.time c.args.stamped.event in
     rw c.is_refusal.ensures
     (judged-event duration c.args.engine.now c.reply.new.engine c.args.number H e c.in_ok-replies.replies c.args.out.now.items c.put_replies.new.out.items h
-    (λ built. c.in_ok-replies.ensures.replied H h.engine_stands built)
-    (λ other. c.in_ok-replies.ensures.other h.engine_stands.steps.working other)
-    (c.in_ok-put_replies.ensures))
+    (c.in_ok-replies.ensures.replied H h.engine_stands) c.in_ok-put_replies.ensures)

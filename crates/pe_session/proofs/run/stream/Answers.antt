@@ -2,7 +2,7 @@ use Rattle.std.proofs.Common.{◌≡◌, ◌≤◌, ◌<◌, ◌-◌, ◌++◌, 
 use Rattle.std.proofs.lemmas.List.{length-take, length-append}
 use Rattle.std.specs.Io.KnownBytes.{Consumes}
 use Rattle.std.proofs.KnownBytes.{Consumes-trans, Appends-trans, Consumes-nil, Appends-nil}
-use Rattle.pe_output.specs.Built.{built_ended_text}
+use Rattle.pe_output.specs.OutputText.{ended_text}
 use Rattle.pe_session.proofs.Outcomes.{number-small, nothing-yet, up-to-limit, cut-before-piece, cut-in-front, cut-now, cut-in-last, none-given}
 use Rattle.pe_session.proofs.run.stream.Goals as goal
 
@@ -64,10 +64,10 @@ returns-in-Ok-take-clause-text g c =
     let over : c.args.limit < length (taken ++ take count room) = omega (arith, total, got, length-append taken (take count room), c.if-count-spare.true, c.loop-count.invariant.within) in
     let past : c.args.limit - c.loop-count.total ≤ count = omega (arith, c.if-count-spare.true) in (
       taken ++ take count room,
-      built_ended_text duration taken ++ text,
+      ended_text duration taken ++ text,
       Consumes-trans _ _ _ taken _ given c.in-Ok.ensures.bytes.0,
       Appends-trans _ _ _ _ _ wrote appended,
-      record { over = over; text = sym (ap (built_ended_text duration) (up-to-limit c.args.limit count c.loop-count.total taken room total c.loop-count.invariant.within past) ∙ adds) },
+      record { over = over; text = sym (ap (ended_text duration) (up-to-limit c.args.limit count c.loop-count.total taken room total c.loop-count.invariant.within past) ∙ adds) },
     )
 
 pub returns-in-Err-Memory-clause-text : goal.returns-in-Err-Memory-clause-text
@@ -77,7 +77,7 @@ returns-in-Err-Memory-clause-text g c =
     let same = c.in-Err-Memory.ensures.memory (cc c.in-Err-Memory.field-0-is) in
     let few : length (take c.in-Ok.count c.read.new.room) ≤ 65536 = omega (arith, length-take c.in-Ok.count c.read.new.room, c.requires.few, c.read.auto.room, c.loop-count.auto.room) in (
       taken ++ take c.in-Ok.count c.read.new.room,
-      built_ended_text duration taken,
+      ended_text duration taken,
       Consumes-trans _ _ _ taken _ given c.in-Ok.ensures.bytes.0,
       rw same wrote,
       cut-before-piece (record { ended = c.ended_lines_stay.ensures.ended; all = c.ended_lines_stay.ensures.all }) duration taken (take c.in-Ok.count c.read.new.room) _ few,
@@ -92,7 +92,7 @@ returns-in-Err-Write-clause-text g c =
     let few : length (take c.in-Ok.count c.read.new.room) ≤ 65536 = omega (arith, length-take c.in-Ok.count c.read.new.room, c.requires.few, c.read.auto.room, c.loop-count.auto.room) in
     let past : c.args.limit - c.loop-count.total ≤ c.in-Ok.count = omega (arith, c.if-count-spare.true) in (
       taken ++ take c.in-Ok.count c.read.new.room,
-      built_ended_text duration taken ++ text,
+      ended_text duration taken ++ text,
       Consumes-trans _ _ _ taken _ given c.in-Ok.ensures.bytes.0,
       Appends-trans _ _ _ _ _ wrote appended,
       cut-in-front (record { ended = c.ended_lines_stay.ensures.ended; all = c.ended_lines_stay.ensures.all }) duration _ _ taken c.read.new.room text rest _ past adds few,
@@ -105,7 +105,7 @@ returns-in-Err-Memory-take-clause-text g c =
     let same = c.in-Err-Memory-take.ensures.memory (cc c.in-Err-Memory-take.field-0-is) in
     let few : length (take c.in-Ok.count c.read.new.room) ≤ 65536 = omega (arith, length-take c.in-Ok.count c.read.new.room, c.requires.few, c.read.auto.room, c.loop-count.auto.room) in (
       taken ++ take c.in-Ok.count c.read.new.room,
-      built_ended_text duration taken,
+      ended_text duration taken,
       Consumes-trans _ _ _ taken _ given c.in-Ok.ensures.bytes.0,
       rw same wrote,
       cut-before-piece (record { ended = c.ended_lines_stay.ensures.ended; all = c.ended_lines_stay.ensures.all }) duration taken (take c.in-Ok.count c.read.new.room) _ few,
@@ -119,7 +119,7 @@ returns-in-Err-Write-take-clause-text g c =
     let (text, rest, adds, appended) = each duration taken at in
     let few : length (take c.in-Ok.count c.read.new.room) ≤ 65536 = omega (arith, length-take c.in-Ok.count c.read.new.room, c.requires.few, c.read.auto.room, c.loop-count.auto.room) in (
       taken ++ take c.in-Ok.count c.read.new.room,
-      built_ended_text duration taken ++ text,
+      ended_text duration taken ++ text,
       Consumes-trans _ _ _ taken _ given c.in-Ok.ensures.bytes.0,
       Appends-trans _ _ _ _ _ wrote appended,
       cut-in-front (record { ended = c.ended_lines_stay.ensures.ended; all = c.ended_lines_stay.ensures.all }) duration c.in-Ok.count _ taken c.read.new.room text rest _ (omega arith) adds few,
@@ -131,7 +131,7 @@ returns-in-Err-Memory-end-clause-text g c =
     let (taken, given, total, wrote, at) = c.loop-count.invariant.went in
     let same = c.in-Err-Memory-end.ensures.memory (cc c.in-Err-Memory-end.field-0-is) in (
       taken,
-      built_ended_text duration taken,
+      ended_text duration taken,
       subst (Consumes _ _) (none-given taken c.read.new.room c.in-Ok.count c.if-count-eq0.true) (Consumes-trans _ _ _ taken _ given c.in-Ok.ensures.bytes.0),
       rw same wrote,
       cut-now (record { ended = c.ended_lines_stay.ensures.ended; all = c.ended_lines_stay.ensures.all }) duration taken _,
@@ -145,7 +145,7 @@ returns-in-Err-Write-end-clause-text g c =
     let (text, rest, adds, appended) = each duration taken at in
     let ended = c.in-Ok.ensures.bytes.1 c.if-count-eq0.true (omega (arith, c.requires.some, c.read.auto.room, c.loop-count.auto.room)) in (
       taken,
-      built_ended_text duration taken ++ text,
+      ended_text duration taken ++ text,
       subst (Consumes _ _) (none-given taken c.read.new.room c.in-Ok.count c.if-count-eq0.true) (Consumes-trans _ _ _ taken _ given c.in-Ok.ensures.bytes.0),
       Appends-trans _ _ _ _ _ wrote appended,
       cut-in-last (record { ended = c.ended_lines_stay.ensures.ended; all = c.ended_lines_stay.ensures.all }) duration taken text rest _ ended adds,
@@ -159,7 +159,7 @@ returns-then-has_refused-clause-text g c =
     let (text, adds, appended) = more in
     let ended = c.in-Ok.ensures.bytes.1 c.if-count-eq0.true (omega (arith, c.requires.some, c.read.auto.room, c.loop-count.auto.room)) in (
       taken,
-      built_ended_text duration taken ++ text,
+      ended_text duration taken ++ text,
       subst (Consumes _ _) (none-given taken c.read.new.room c.in-Ok.count c.if-count-eq0.true) (Consumes-trans _ _ _ taken _ given c.in-Ok.ensures.bytes.0),
       Appends-trans _ _ _ _ _ wrote appended,
       record { ended = ended; within = omega (arith, total, c.loop-count.invariant.within); text = sym adds; refused_is = sym flag ∙ sym (c.if-has_refused.ensures) },
@@ -173,7 +173,7 @@ returns-else-has_refused-clause-text g c =
     let (text, adds, appended) = more in
     let ended = c.in-Ok.ensures.bytes.1 c.if-count-eq0.true (omega (arith, c.requires.some, c.read.auto.room, c.loop-count.auto.room)) in (
       taken,
-      built_ended_text duration taken ++ text,
+      ended_text duration taken ++ text,
       subst (Consumes _ _) (none-given taken c.read.new.room c.in-Ok.count c.if-count-eq0.true) (Consumes-trans _ _ _ taken _ given c.in-Ok.ensures.bytes.0),
       Appends-trans _ _ _ _ _ wrote appended,
       record { ended = ended; within = omega (arith, total, c.loop-count.invariant.within); text = sym adds; refused_is = sym flag ∙ sym (c.if-has_refused.ensures) },

@@ -1,6 +1,6 @@
 use Rattle.std.proofs.Common.{◌≡◌, ◌+◌, ◌-◌, ◌≤◌, ℕ, List, length}
 use Rattle.std.specs.Io.KnownBytes.{Appends, Consumes}
-use Rattle.pe_output.specs.Built.{built_ended_text}
+use Rattle.pe_output.specs.OutputText.{ended_text}
 use Rattle.pe_session.specs.Session.{HasTaken}
 use Rattle.pe_session.proofs.run.stream.Given as goal
 
@@ -11,7 +11,7 @@ invariant-loop-count g l = record {
   within : l.total ≤ l.limit;
   went : (taken : List ℕ) × Consumes (g.S.Source.left l.fn.source) (g.S.Source.left l.source) taken
       × (l.total ≡ length taken)
-      × Appends (g.K.Sink.written l.fn.sink) (g.K.Sink.written l.sink) (built_ended_text l.fn.session.engine.duration taken)
+      × Appends (g.K.Sink.written l.fn.sink) (g.K.Sink.written l.sink) (ended_text l.fn.session.engine.duration taken)
       × HasTaken l.fn.session.engine.duration l.session taken;
 }
 

@@ -12,9 +12,9 @@ returns-clause-denied g c = λ H frame name why s is.
     clause-denied c.engine_laws.ensures.history c.reply.result c.args.self.now c.reply.new.self H c.args.stamped.now.time c.args.stamped.now.event frame name why is (c.reply.ensures.replied H s)
 
 pub returns-clause-before : goal.returns-clause-before
-returns-clause-before g c = λ H s built.
-    clause-before c.reply.result c.args.self.now c.reply.new.self H (timed c.args.stamped.now.time c.args.stamped.now.event) (c.reply.ensures.replied H s built)
+returns-clause-before g c = λ H s.
+    clause-before c.reply.result c.args.self.now c.reply.new.self H (timed c.args.stamped.now.time c.args.stamped.now.event) (c.reply.ensures.replied H s)
 
 pub returns-clause-after : goal.returns-clause-after
-returns-clause-after g c = λ H s built.
-    clause-after c.reply.result c.args.self.now c.reply.new.self H (timed c.args.stamped.now.time c.args.stamped.now.event) (c.reply.ensures.replied H s built)
+returns-clause-after g c = λ H s.
+    clause-after c.reply.result c.args.self.now c.reply.new.self H (timed c.args.stamped.now.time c.args.stamped.now.event) (c.reply.ensures.replied H s)

@@ -1,6 +1,7 @@
 use Rattle.std.proofs.Common.{[], refl, ap}
 use Rattle.pe_lines.specs.Rests.{Rest}
-use Rattle.pe_session.specs.Session.{history_after_lines, readings}
+use Rattle.pe_output.specs.OutputText.{readings}
+use Rattle.pe_session.specs.Session.{history_after_lines}
 use Rattle.pe_lines.specs.Lines.{ended_lines_or_too_long}
 use Rattle.pe_session.proofs.Stretches.{next-none, last-taken, last-some, last-none}
 use Rattle.pe_session.proofs.session.Session.judge_last.Goals as goal

@@ -1,7 +1,8 @@
 use Rattle.std.proofs.Common.{◌++◌, ◌∷◌, arith, refl, []}
 use Rattle.std.proofs.lemmas.List.{length_push}
 use Rattle.pe_lines.specs.Cutting.{line_of_cut}
-use Rattle.pe_session.specs.Session.{history_after_lines, readings}
+use Rattle.pe_output.specs.OutputText.{readings}
+use Rattle.pe_session.specs.Session.{history_after_lines}
 use Rattle.pe_session.proofs.Texts.{Went-more, Went-none}
 use Rattle.pe_session.proofs.Stretches.{next-whole, Cuts-none, Cuts-join}
 use Rattle.pe_session.proofs.session.Session.judge_lines.Goals as goal
