@@ -5,3 +5,6 @@ mod generating;
 mod lines;
 
 pub use generating::generate_script;
+
+#[cfg(test)]
+mod tests;
