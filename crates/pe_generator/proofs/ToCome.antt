@@ -1,5 +1,5 @@
 -- The lines that are still to come.
-use Rattle.std.proofs.Common.{◌≡◌, ℕ, suc, zero, ◌+◌, ◌-◌, ◌<◌, List, [], ◌++◌, refl, arith}
+use Rattle.std.proofs.Common.{◌≡◌, ℕ, suc, ◌+◌, ◌-◌, ◌<◌, [], ◌++◌, refl, arith}
 use Rattle.pe_generator.specs.Generated.{next_state, drawn, pause, choice, line_of, lines_from}
 
 -- the first of them, and the lines behind it

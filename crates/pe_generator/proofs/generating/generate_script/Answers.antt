@@ -1,6 +1,6 @@
-use Rattle.std.proofs.Common.{◌≡◌, ℕ, ◌+◌, ◌-◌, ◌*◌, ◌<◌, ◌≤◌, ◌/◌, ◌%◌, List, [], ◌∷◌, ◌++◌, refl, arith, append_assoc}
+use Rattle.std.proofs.Common.{◌≡◌, ◌+◌, ◌-◌, ◌<◌, refl, arith, append_assoc}
 use Rattle.std.proofs.lemmas.Grind.{common_steps}
-use Rattle.pe_generator.specs.Generated.{next_state, pause, drawn, choice, line_of, lines_from, generated}
+use Rattle.pe_generator.specs.Generated.{pause, drawn, choice, line_of, lines_from, generated}
 use Rattle.pe_generator.proofs.ToCome.{lines_from-more, lines_from-none}
 use Rattle.pe_generator.proofs.generating.generate_script.Goals as goal
 

@@ -1,4 +1,4 @@
-use Rattle.std.proofs.Common.{◌≡◌, ℕ, ◌+◌, ◌*◌, ◌/◌, ◌%◌, List, [], ◌∷◌, ◌++◌, OnOk, sym, subst}
+use Rattle.std.proofs.Common.{◌≡◌, ℕ, ◌+◌, ◌*◌, ◌/◌, ◌%◌, ◌++◌, OnOk, sym, subst}
 use Rattle.std.specs.Prelude.{codes, decimal}
 use Rattle.pe_generator.specs.Generated.{state_set, words_of}
 use Rattle.pe_generator.proofs.Joined.{one_piece, two_pieces, three_pieces, named_pieces}
