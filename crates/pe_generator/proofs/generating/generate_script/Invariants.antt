@@ -1,0 +1,10 @@
+use Rattle.std.proofs.Common.{◌≡◌, ◌-◌, ◌*◌, ◌≤◌, ◌++◌}
+use Rattle.pe_generator.specs.Generated.{generated, lines_from}
+use Rattle.pe_generator.proofs.generating.generate_script.Given as goal
+
+-- what is written, and the lines that are still to come, are the whole
+abbrev pub invariant-loop-before : goal.invariant-loop-before
+invariant-loop-before l = record {
+  early : l.time ≤ 39 * l.before;
+  whole : l.script.items ++ lines_from (l.count - l.before) l.before l.state l.time ≡ generated l.seed l.count;
+}
