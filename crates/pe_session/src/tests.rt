@@ -315,6 +315,82 @@ fn ones(alloc: Global, count: usize) -> Result<Vec<usize>, Fail> {
     Ok(vec![in alloc; 1; count]?)
 }
 
+/// A shop, the frame of its payment service, and an advertisement.
+const SHOP: &str = r#"# A shop, the frame of its payment service, and an advertisement.
+0 open https://shop.example/ header "geolocation=(self)"
+0 embed f1 https://pay.example/checkout allow "payment 'src'"
+0 embed f1 https://ads.example/banner
+# What the advertisement may not do.
+10 policy f3 geolocation
+10 use f3 open-window
+10 use f3 vibrate
+# The shop asks where its customer is, for a minute.
+1000 query f1 geolocation
+1500 input f1 pointerup-touch
+1500 request f1 geolocation
+2500 answer p9 allow for 60000
+2600 use f1 get-position
+# It delegates a payment, which takes the input of before.
+3000 post f1 f2 https://pay.example payment
+3005 deliver m12
+3010 use f2 show-payment
+3011 use f2 show-payment
+# An input in the advertisement activates the shop too, and a window that it opens takes that of both.
+4000 input f3 mousedown
+4001 use f3 open-window
+4002 state f1
+4002 use f1 open-window
+# The minute ends, and the shop is left.
+62499 tick
+62600 use f1 get-position
+63000 close f1
+"#;
+
+const SHOP_TEXT: &str = r#"2 frame f1 doc d1 https://shop.example
+3 frame f2 doc d2 https://pay.example
+4 frame f3 doc d3 https://ads.example
+6 denied embedder-header d1
+7 denied no-transient
+8 denied no-sticky
+10 status s7 prompt
+11 activated 1
+12 prompt p9
+13 settled 1 granted
+@2500 s7 granted
+14 allowed
+16 message m12
+17 delivered
+18 allowed
+19 denied no-transient
+21 activated 2
+22 allowed
+23 sticky yes transient no
+24 denied no-transient
+26 ok
+@62500 s7 prompt
+27 denied permission-prompt
+28 ok
+"#;
+
+/// The whole session in one piece, and in pieces of one byte.
+#[test]
+fn a_shop_whole_and_byte_by_byte(rt: HostRuntime) -> Result<(), Fail> {
+    let alloc = rt.alloc();
+    let (status, sink) = run(&rt, &["run"], SHOP.as_bytes())?;
+    assert_eq!(rt; sink.as_slice(), SHOP_TEXT.as_bytes());
+    assert_eq!(rt; status, Status::Clean);
+    let mut source = MemSource::new(
+        SHOP.as_bytes().to_vec(alloc)?,
+        ones(alloc, SHOP.len() + 1)?,
+        Vec::new(alloc),
+    );
+    let mut sink = sink_of(alloc, 65_536)?;
+    let status = run_within(alloc, 5000, 1_073_741_824, &mut source, &mut sink);
+    assert_eq!(rt; sink.as_slice(), SHOP_TEXT.as_bytes());
+    assert_eq!(rt; status, Status::Clean);
+    Ok(())
+}
+
 #[test]
 fn failing_reads(rt: HostRuntime) -> Result<(), Fail> {
     let alloc = rt.alloc();
