@@ -527,6 +527,32 @@ fn limit_of_events(rt: HostRuntime) -> Result<(), Fail> {
     Ok(())
 }
 
+/// As many entries as the store may have, one more, and one that is there. They end all at one line, and then
+/// there is room.
+#[test]
+fn limit_of_the_store(rt: HostRuntime) -> Result<(), Fail> {
+    let alloc = rt.alloc();
+    let mut script = Vec::new(alloc);
+    for number in 0..65_536 {
+        let line = format!(in alloc; "0 set camera https://n{number}.example granted for 9\n")?;
+        script.extend_from_slice(line.as_bytes())?;
+    }
+    script.extend_from_slice(
+        b"8 set camera https://a.example granted\n8 set camera https://n7.example denied for 1\n\
+          9 set camera https://a.example granted\n9 tick\n9 set camera https://a.example granted\n",
+    )?;
+    let mut source = PlainSource::new(script);
+    let mut sink = sink_of(alloc, 2_000_000)?;
+    let status = run_within(alloc, 5000, 1_073_741_824, &mut source, &mut sink);
+    assert!(rt;
+        sink.as_slice().ends_with(
+            b"65536 ok\n65537 refused limit-store\n65538 ok\n65539 refused limit-store\n65540 ok\n65541 ok\n"
+        )
+    );
+    assert_eq!(rt; status, Status::Refusals);
+    Ok(())
+}
+
 #[test]
 fn limits_of_pages_and_frames(rt: HostRuntime) -> Result<(), Fail> {
     let alloc = rt.alloc();
