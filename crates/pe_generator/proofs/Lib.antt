@@ -1,3 +1,5 @@
 pub mod Joined
+pub mod Lengths
 pub mod Numerals
+pub mod Parts
 pub mod ToCome

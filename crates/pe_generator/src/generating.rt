@@ -1,5 +1,5 @@
 //! The script.
-ghost use Rattle.std.specs.Prelude.{◌≡◌, ◌≤◌, IfOk};
+ghost use Rattle.std.specs.Prelude.{◌≡◌, ◌≤◌, ◌*◌, IfOk, length};
 ghost use Rattle.pe_generator.specs.Generated.{next_state, drawn, generated};
 
 use crate::lines::put_line;
@@ -26,7 +26,10 @@ fn next_state(state: u64) -> u64
 pub fn generate_script(alloc: Global, seed: u64, count: u32) -> Result<Vec<u8>, AllocError>
     requires low { 1 ≤ count }
     requires high { count ≤ 100000 }
-    ensures { IfOk result (λ script. script.items ≡ generated seed count) }
+    ensures script { IfOk result (λ script. script.items ≡ generated seed count) }
+
+    // A line has at most 512 bytes.
+    ensures short { IfOk result (λ script. length script.items ≤ 512 * count) }
 {
     let mut script = Vec::new(alloc);
     let mut state = seed;
