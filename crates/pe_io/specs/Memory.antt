@@ -21,3 +21,8 @@ pub record Writing : Type 0 where
 -- how many of n bytes a call moves: all of them where it has no size, else no more than its size, where 0 counts as 1
 abbrev pub sized : List ℕ → ℕ → ℕ → ℕ
 sized sizes call n = min n (unwrap_or (option_map (λ size. max size 1) (slice_get sizes call)) n)
+
+-- a sink that keeps what is written: the bytes, the faults
+pub record Keeping : Type 0 where
+  pub text : List ℕ
+  pub faults : ℕ

@@ -2,10 +2,12 @@
 //! and writers.
 #![tactic(auto)]
 
+mod keeping;
 mod memory;
 mod standard;
 mod traits;
 
+pub use keeping::TextSink;
 pub use memory::{MemSink, MemSource, PlainSource};
 pub use standard::{StdSink, StdSource};
 pub use traits::{Failed, Sink, Source, write_whole};

@@ -1,6 +1,6 @@
 //! What no contract says: how the sources and sinks of the runtime's readers and writers deal with
 //! failing ones, that there is memory for a sink, and rows of sizes and failing calls.
-use crate::{Failed, MemSink, MemSource, Sink, Source, StdSink, StdSource, write_whole};
+use crate::{Failed, MemSink, MemSource, Sink, Source, StdSink, StdSource, TextSink, write_whole};
 use std::io;
 use std::io::{ErrorKind, Read, Write};
 use std::test::Fail;
@@ -157,5 +157,16 @@ fn a_piece_takes_no_more_calls_than_it_needs(rt: HostRuntime) -> Result<(), Fail
     assert_eq!(rt; write_whole(&mut sink, b"ab"), Ok(()));
     assert_eq!(rt; write_whole(&mut sink, b"c"), Err(Failed));
     assert_eq!(rt; sink.as_slice(), b"ab".as_slice());
+    Ok(())
+}
+
+#[test]
+fn a_kept_text_grows_with_what_is_written(rt: HostRuntime) -> Result<(), Fail> {
+    let mut sink = TextSink::new(rt.alloc());
+    assert_eq!(rt; sink.as_slice(), b"".as_slice());
+    assert_eq!(rt; sink.write(b"1 ok\n"), Ok(5));
+    assert_eq!(rt; sink.write(b""), Ok(0));
+    assert_eq!(rt; write_whole(&mut sink, b"2 allowed\n"), Ok(()));
+    assert_eq!(rt; sink.as_slice(), b"1 ok\n2 allowed\n".as_slice());
     Ok(())
 }

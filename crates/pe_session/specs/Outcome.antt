@@ -3,6 +3,7 @@
 -- What is taken is what the source gave in this call; what it has left is known where the source tells its bytes.
 use Rattle.std.specs.Prelude.{◌≡◌, ℕ, ◌-◌, ◌<◌, ◌≤◌, Bool, true, false, List, ◌++◌, length, take, Option, IfSome}
 use Rattle.std.specs.Io.KnownBytes.{IsAtEnd, Appends}
+use Rattle.pe_generator.specs.Summary.{count_lines, is_refusal, summary}
 use Rattle.pe_output.specs.OutputText.{output_text, ended_text, refuses_some}
 use Rattle.pe_session.specs.declared.status.Status.{Status}
 use Rattle.pe_session.specs.declared.status.Status.TheVariants.{Clean, Refusals, Words, ReadFault, WriteFault, Memory, InputTooLong}
@@ -58,3 +59,11 @@ says_refused status = false
 -- a front of the text was written, maybe nothing of it
 abbrev pub AppendsPrefix : Option (List ℕ) → Option (List ℕ) → List ℕ → Type 0
 AppendsPrefix old new text = (front : List ℕ) × (rest : List ℕ) × (text ≡ front ++ rest) × Appends old new front
+
+-- what was written of the summary of an output text, by the status: whole where it tells whether a line is refused, else a front of it
+abbrev pub Summarises : Status → ℕ → List ℕ → Option (List ℕ) → Option (List ℕ) → Type 0
+Summarises Clean count text old new = (count_lines is_refusal text ≡ 0) × Appends old new (summary count text)
+Summarises Refusals count text old new = (0 < count_lines is_refusal text) × Appends old new (summary count text)
+Summarises WriteFault count text old new = AppendsPrefix old new (summary count text)
+Summarises Memory count text old new = new ≡ old
+Summarises status count text old new = ⊥

@@ -1,9 +1,10 @@
 -- What the words of the command line ask for.
 -- The command line is this project's own.
 -- A form that is not built yet is none of the forms.
-use Rattle.std.specs.Prelude.{ℕ, nat_le, ◌&&◌, List, [], ◌∷◌, codes, bytes_eq, Option, Some, None, option_and_then, if◌then◌else◌}
+use Rattle.std.specs.Prelude.{◌≡◌, ℕ, nat_le, ◌&&◌, List, [], ◌∷◌, codes, bytes_eq, Option, Some, None, option_and_then, if◌then◌else◌}
 use Rattle.std.specs.Io.KnownBytes.{Appends}
 use Rattle.pe_base.specs.declared.limits.TheConstants.{DURATION_LIMIT}
+use Rattle.pe_generator.specs.Words.{AsksForScript}
 use Rattle.pe_io.specs.Pieces.{WritesPrefix}
 use Rattle.pe_script.specs.Numerals.{positive}
 use Rattle.pe_session.specs.declared.status.Status.{Status}
@@ -18,6 +19,11 @@ unfoldable pub duration_asked : List (List ℕ) → Option ℕ
 duration_asked (word ∷ []) = if bytes_eq word (codes "run") then Some 5000 else None
 duration_asked (word ∷ ms ∷ []) = if bytes_eq word (codes "run") then duration_of ms else None
 duration_asked words = None
+
+-- the words are none of the forms: neither `run`, nor `run MS`, nor `generate SEED COUNT`
+pub record AreNoForm (words : List (List ℕ)) : Type 0 where
+  pub no_run : duration_asked words ≡ None
+  pub no_script : (seed count : ℕ) → AsksForScript seed count words → ⊥
 
 -- the usage line
 abbrev pub usage : List ℕ

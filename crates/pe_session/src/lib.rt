@@ -1,6 +1,7 @@
 //! A session: reads a script in pieces, answers each line, and writes the text as the lines come.
 #![tactic(auto)]
 
+mod generated;
 mod judging;
 mod run;
 mod serving;

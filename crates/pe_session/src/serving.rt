@@ -18,18 +18,19 @@ ghost use Rattle.std.specs.Prelude.{
 ghost use Rattle.std.specs.Io.KnownBytes.{Appends, Consumes};
 ghost use Rattle.std.specs.String.{string_bytes};
 ghost use Rattle.pe_output.specs.OutputText.{output_text, refuses_some};
-ghost use Rattle.pe_session.specs.Outcome.{Wrote, IsWholeStatus, IsCutStatus, says_refused, AppendsPrefix};
-ghost use Rattle.pe_session.specs.Words.{duration_asked, duration_of, Explains};
+ghost use Rattle.pe_session.specs.Outcome.{Wrote, IsWholeStatus, IsCutStatus, says_refused, AppendsPrefix, Summarises};
+ghost use Rattle.pe_session.specs.Words.{duration_asked, duration_of, AreNoForm, Explains};
+ghost use Rattle.pe_generator.specs.Generated.{generated};
+ghost use Rattle.pe_generator.specs.Words.{AsksForScript};
 
+use crate::generated::{DURATION, summarise};
 use crate::run::run_within;
 use crate::status::Status;
 use pe_base::{DURATION_LIMIT, INPUT_LIMIT};
+use pe_generator::script_asked;
 use pe_io::{Sink, Source, write_whole};
 use pe_script::positive;
 use std::alloc::Global;
-
-/// The duration of transient activation in milliseconds, where the words name none.
-const DURATION: u32 = 5000;
 
 /// What is written where the words are none of the forms.
 const USAGE: &[u8] = b"usage: permissions run [MS] | generate SEED COUNT | check\n";
@@ -72,7 +73,8 @@ fn duration_asked(words: &[String]) -> Option<u32>
 }
 
 /// Does what the words ask for: `run` and `run MS` read a script from the source and write its text to
-/// the sink, with the duration 5000 or MS. Other words are answered with the usage line.
+/// the sink, with the duration 5000 or MS; `generate SEED COUNT` makes a script, runs it with the duration
+/// 5000, and writes the summary of its text. Other words are answered with the usage line.
 pub fn serve<S: Source, K: Sink>(
     alloc: Global,
     words: &[String],
@@ -103,8 +105,12 @@ pub fn serve<S: Source, K: Sink>(
         S.faults source.new ≡ S.faults source.old → K.faults sink.new ≡ K.faults sink.old →
         IfSome (S.left source.old) (λ script. 1073741824 < length script → (result ≡ Status.InputTooLong) ⊎ (result ≡ Status.Memory)) }
 
+    // A generated script: the summary of its output text is written, and the source is untouched.
+    ensures generate { (seed : ℕ) → (count : ℕ) → AsksForScript seed count (map string_bytes words.now) → (source.new ≡ source.old)
+        × Summarises result count (output_text 5000 (generated seed count)) (K.written sink.old) (K.written sink.new) }
+
     // Words of no form leave the source untouched, and never want memory.
-    ensures usage { duration_asked (map string_bytes words.now) ≡ None → (source.new ≡ source.old)
+    ensures usage { AreNoForm (map string_bytes words.now) → (source.new ≡ source.old)
         × Explains result (K.written sink.old) (K.written sink.new) }
 
     ensures read_fault { result ≡ Status.ReadFault → S.faults source.old < S.faults source.new }
@@ -114,9 +120,12 @@ pub fn serve<S: Source, K: Sink>(
 {
     match duration_asked(words) {
         Some(duration) => run_within(alloc, duration, INPUT_LIMIT, source, sink),
-        None => match write_whole(sink, USAGE) {
-            Ok(()) => Status::Words,
-            Err(_) => Status::WriteFault,
+        None => match script_asked(words) {
+            Some((seed, count)) => summarise(alloc, seed, count, sink),
+            None => match write_whole(sink, USAGE) {
+                Ok(()) => Status::Words,
+                Err(_) => Status::WriteFault,
+            },
         },
     }
 }
