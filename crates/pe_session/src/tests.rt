@@ -282,7 +282,7 @@ fn headers(rt: HostRuntime) -> Result<(), Fail> {
 #[test]
 fn words(rt: HostRuntime) -> Result<(), Fail> {
     let usage = b"usage: permissions run [MS] | generate SEED COUNT | check\n";
-    let wrong: [&[&str]; 12] = [
+    let wrong: [&[&str]; 20] = [
         &[],
         &["run", "0"],
         &["run", "05"],
@@ -294,7 +294,15 @@ fn words(rt: HostRuntime) -> Result<(), Fail> {
         &["run", "5", "5"],
         &["Run"],
         &["check"],
-        &["generate", "7", "7"],
+        &["generate"],
+        &["generate", "7"],
+        &["generate", "7", "0"],
+        &["generate", "7", "01"],
+        &["generate", "7", "100001"],
+        &["generate", "07", "1"],
+        &["generate", "18446744073709551616", "1"],
+        &["generate", "7", "7", "7"],
+        &["Generate", "7", "7"],
     ];
     for words in wrong {
         let (status, sink) = run(&rt, words, PAGE.as_bytes())?;
@@ -435,6 +443,255 @@ fn failing_writes(rt: HostRuntime) -> Result<(), Fail> {
         let status = run_within(alloc, 5000, 1_073_741_824, &mut source, &mut sink);
         assert_eq!(rt; sink.as_slice(), &TWO_TEXT[..call], "call {call}");
         assert_eq!(rt; status, Status::WriteFault, "call {call}");
+    }
+    Ok(())
+}
+
+/// How many lines each call of the sink writes where the shop's script comes byte by byte: the text of one
+/// line of the script, its changes with it.
+const SHOP_CALLS: [usize; 23] = [
+    1, 1, 1, 1, 1, 1, 1, 1, 1, 2, 1, 1, 1, 1, 1, 1, 1, 1, 1, 1, 2, 1, 0,
+];
+
+/// How many bytes so many lines of a text have.
+fn front_of_lines(text: &[u8], lines: usize) -> usize {
+    let mut left = lines;
+    for (i, byte) in text.iter().enumerate() {
+        if left == 0 {
+            return i;
+        }
+        if *byte == b'\n' {
+            left = left.saturating_sub(1);
+        }
+    }
+    text.len()
+}
+
+/// Each call of the sink fails in turn, and the last one of all comes after the text is whole.
+#[test]
+fn a_sink_that_fails_at_each_of_its_calls(rt: HostRuntime) -> Result<(), Fail> {
+    let alloc = rt.alloc();
+    let mut lines: usize = 0;
+    for (call, more) in SHOP_CALLS.into_iter().enumerate() {
+        let mut source = MemSource::new(
+            SHOP.as_bytes().to_vec(alloc)?,
+            ones(alloc, SHOP.len() + 1)?,
+            Vec::new(alloc),
+        );
+        let fails = vec![in alloc; call as u64]?;
+        let mut sink = MemSink::new(alloc, 65_536, Vec::new(alloc), fails)?;
+        let status = run_within(alloc, 5000, 1_073_741_824, &mut source, &mut sink);
+        let front = front_of_lines(SHOP_TEXT.as_bytes(), lines);
+        assert_eq!(rt; sink.as_slice(), &SHOP_TEXT.as_bytes()[..front], "call {call}");
+        let wanted = if call == 22 {
+            Status::Clean
+        } else {
+            Status::WriteFault
+        };
+        assert_eq!(rt; status, wanted, "call {call}");
+        lines = lines.saturating_add(more);
+    }
+    Ok(())
+}
+
+/// Frames that are gone and frames that no event made, and statuses, prompts and messages that are gone, were
+/// settled, or that no event made.
+const STALE: &str = r#"0 open https://a.example/
+0 embed f1 https://b.example/
+0 embed f1 https://c.example/ allow "camera; payment"
+0 query f1 geolocation
+0 drop s4
+0 query f3 camera
+0 request f1 geolocation
+0 answer p7 allow
+0 request f3 camera
+0 request f1 microphone
+0 input f1 mousedown
+0 post f1 f3 https://c.example payment
+0 deliver m12
+0 answer p10 allow
+0 close f2
+0 close f3
+0 nav f2 https://b.example/
+0 attr f2 allow none
+0 close f2
+0 input f2 mousedown
+0 state f2
+0 history f2
+0 policy f2 camera
+0 features f2
+0 use f2 vibrate
+0 query f2 camera
+0 request f2 camera
+0 embed f2 https://b.example/
+0 post f2 f1 https://a.example payment
+0 post f1 f2 * payment
+0 nav f99 https://b.example/
+0 attr f99 allow none
+0 close f99
+0 input f99 mousedown
+0 state f99
+0 history f99
+0 policy f99 camera
+0 features f99
+0 use f99 vibrate
+0 query f99 camera
+0 request f99 camera
+0 embed f99 https://b.example/
+0 post f99 f1 https://a.example payment
+0 post f1 f99 * payment
+0 drop s4
+0 drop s6
+0 drop s5
+0 answer p7 allow
+0 answer p9 allow
+0 answer p8 allow
+0 deliver m12
+0 deliver m11
+0 state f9999999
+0 state f0
+"#;
+
+const STALE_TEXT: &str = r#"1 frame f1 doc d1 https://a.example
+2 frame f2 doc d2 https://b.example
+3 frame f3 doc d3 https://c.example
+4 status s4 prompt
+5 ok
+6 status s6 prompt
+7 prompt p7
+8 settled 1 granted
+9 prompt p9
+10 prompt p10
+11 activated 1
+12 message m12
+13 delivered
+14 refused not-shown
+15 ok
+16 ok
+17 refused closed
+18 refused closed
+19 refused closed
+20 refused closed
+21 refused closed
+22 refused closed
+23 refused closed
+24 refused closed
+25 refused closed
+26 refused closed
+27 refused closed
+28 refused closed
+29 refused closed
+30 refused closed
+31 refused unknown
+32 refused unknown
+33 refused unknown
+34 refused unknown
+35 refused unknown
+36 refused unknown
+37 refused unknown
+38 refused unknown
+39 refused unknown
+40 refused unknown
+41 refused unknown
+42 refused unknown
+43 refused unknown
+44 refused unknown
+45 refused closed
+46 refused closed
+47 refused unknown
+48 refused settled
+49 refused closed
+50 refused unknown
+51 refused settled
+52 refused unknown
+53 refused unknown
+54 refused syntax
+"#;
+
+#[test]
+fn stale_names(rt: HostRuntime) -> Result<(), Fail> {
+    let (status, sink) = run(&rt, &["run"], STALE.as_bytes())?;
+    assert_eq!(rt; sink.as_slice(), STALE_TEXT.as_bytes());
+    assert_eq!(rt; status, Status::Refusals);
+    Ok(())
+}
+
+/// An input in one page activates nothing in another: the third line may be there or a tick in its place.
+#[test]
+fn two_pages(rt: HostRuntime) -> Result<(), Fail> {
+    let cases: [(&str, &str); 2] = [
+        (
+            "0 open https://a.example/\n0 open https://c.example/\n0 input f2 mousedown\n1 use f1 open-window\n1 use f2 open-window\n",
+            "1 frame f1 doc d1 https://a.example\n2 frame f2 doc d2 https://c.example\n3 activated 1\n4 denied no-transient\n5 allowed\n",
+        ),
+        (
+            "0 open https://a.example/\n0 open https://c.example/\n0 tick\n1 use f1 open-window\n1 use f2 open-window\n",
+            "1 frame f1 doc d1 https://a.example\n2 frame f2 doc d2 https://c.example\n3 ok\n4 denied no-transient\n5 denied no-transient\n",
+        ),
+    ];
+    for (script, text) in cases {
+        let (status, sink) = run(&rt, &["run"], script.as_bytes())?;
+        assert_eq!(rt; sink.as_slice(), text.as_bytes());
+        assert_eq!(rt; status, Status::Clean);
+    }
+    Ok(())
+}
+
+#[test]
+fn summaries(rt: HostRuntime) -> Result<(), Fail> {
+    let cases: [(&[&str], &str); 3] = [
+        (
+            &["generate", "0", "1"],
+            "lines 1\nrefused 0\nallowed 0\ndenied 0\nchanges 0\nbytes 37\n",
+        ),
+        (
+            &["generate", "18446744073709551615", "3"],
+            "lines 3\nrefused 0\nallowed 0\ndenied 0\nchanges 0\nbytes 93\n",
+        ),
+        (
+            &["generate", "7", "7"],
+            "lines 7\nrefused 0\nallowed 0\ndenied 0\nchanges 0\nbytes 151\n",
+        ),
+    ];
+    for (words, text) in cases {
+        let (status, sink) = run(&rt, words, PAGE.as_bytes())?;
+        assert_eq!(rt; sink.as_slice(), text.as_bytes());
+        assert_eq!(rt; status, Status::Clean);
+    }
+    Ok(())
+}
+
+/// No line of a generated script is refused, and the same words give the same summary.
+#[test]
+fn generated_scripts_have_no_refused_line(rt: HostRuntime) -> Result<(), Fail> {
+    let cases: [(&str, &str, &str); 4] = [
+        ("0", "1000", "lines 1000\nrefused 0\n"),
+        ("1", "1000", "lines 1000\nrefused 0\n"),
+        ("7", "1000", "lines 1000\nrefused 0\n"),
+        ("7", "100000", "lines 100000\nrefused 0\n"),
+    ];
+    for (seed, count, front) in cases {
+        let (status, sink) = run(&rt, &["generate", seed, count], b"")?;
+        assert!(rt; sink.as_slice().starts_with(front.as_bytes()));
+        assert_eq!(rt; status, Status::Clean);
+        let (_, again) = run(&rt, &["generate", seed, count], b"")?;
+        assert_eq!(rt; again.as_slice(), sink.as_slice());
+    }
+    Ok(())
+}
+
+/// A summary into a sink with too little room.
+#[test]
+fn a_summary_that_does_not_fit(rt: HostRuntime) -> Result<(), Fail> {
+    let alloc = rt.alloc();
+    let arguments = arguments(alloc, &["generate", "0", "1"])?;
+    let text = b"lines 1\nrefused 0\nallowed 0\ndenied 0\nchanges 0\nbytes 37\n";
+    for room in 0..text.len() {
+        let mut source = PlainSource::new(Vec::new(alloc));
+        let mut sink = sink_of(alloc, room)?;
+        let status = serve(alloc, &arguments, &mut source, &mut sink);
+        assert_eq!(rt; sink.as_slice(), &text[..room], "room {room}");
+        assert_eq!(rt; status, Status::WriteFault, "room {room}");
     }
     Ok(())
 }
