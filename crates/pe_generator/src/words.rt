@@ -1,5 +1,5 @@
 //! The words of the command line that ask for a script.
-ghost use Rattle.std.specs.Prelude.{◌≡◌, ◌↔◌, ℕ, IfSome, None, IsTrue, decimal, map};
+ghost use Rattle.std.specs.Prelude.{◌≡◌, ◌↔◌, ℕ, IfSome, None, Some, IsTrue, decimal, map};
 ghost use Rattle.pe_generator.specs.Words.{IsSeed, IsCount, AreScriptWords, AsksForScript};
 ghost use Rattle.std.specs.String.{string_bytes};
 
@@ -45,9 +45,10 @@ pub fn read_count(word: &str) -> Option<u32>
 }
 
 /// The seed and the count of the script that three words ask for.
+#[tactic(auto, using(crate::proofs::Numerals::seed_unique, crate::proofs::Numerals::seed_from_count))]
 fn asked_by(verb: &str, seed: &str, count: &str) -> Option<(u64, u32)>
     ensures asked { IfSome result (λ asked. AreScriptWords asked.0 asked.1 verb.now seed.now count.now) }
-    ensures none { result ≡ None → (m : ℕ) → (n : ℕ) → AreScriptWords m n verb.now seed.now count.now → ⊥ }
+    ensures found { (m : ℕ) → (n : ℕ) → AreScriptWords m n verb.now seed.now count.now → result ≡ Some (m, n) }
 {
     if verb != "generate" {
         return None;
@@ -60,7 +61,7 @@ fn asked_by(verb: &str, seed: &str, count: &str) -> Option<(u64, u32)>
 /// The seed and the count of the script that the words ask for: `generate SEED COUNT`.
 pub fn script_asked(words: &[String]) -> Option<(u64, u32)>
     ensures asked { IfSome result (λ asked. AsksForScript asked.0 asked.1 (map string_bytes words.now)) }
-    ensures none { result ≡ None → (seed : ℕ) → (count : ℕ) → AsksForScript seed count (map string_bytes words.now) → ⊥ }
+    ensures found { (seed : ℕ) → (count : ℕ) → AsksForScript seed count (map string_bytes words.now) → result ≡ Some (seed, count) }
 {
     match words {
         [verb, seed, count] => asked_by(verb.as_str(), seed.as_str(), count.as_str()),

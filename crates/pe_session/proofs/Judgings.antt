@@ -1,5 +1,5 @@
 -- How a line is judged.
-use Rattle.std.proofs.Common.{◌≡◌, ℕ, Bool, true, false, List, [], ◌∷◌, ◌++◌, Option, Some, None, Result, Ok, Err, IfOk, OnOk, IfSome, IfNone, refl, sym, ◌∙◌, ap, subst, append-nil, cond}
+use Rattle.std.proofs.Common.{◌≡◌, ℕ, Bool, true, false, List, [], ◌∷◌, ◌++◌, Option, Some, None, Result, Ok, Err, IfOk, OnOk, IfSome, IfNone, refl, sym, ◌∙◌, ap, subst, append-nil}
 use Rattle.pe_lines.specs.declared.cutter.Cut.{Cut}
 use Rattle.pe_lines.specs.declared.cutter.Cut.TheVariants as cut
 use Rattle.pe_lines.specs.Cutting.{line_of_cut}
@@ -7,8 +7,6 @@ use Rattle.pe_events.specs.Texts.{answer_text}
 use Rattle.pe_events.specs.declared.answer.Answer.TheVariants as answer
 use Rattle.pe_events.specs.declared.cause.Cause.{Cause}
 use Rattle.pe_events.specs.declared.cause.Cause.TheVariants as cause
-use Rattle.pe_events.specs.declared.event.Event.{Event}
-use Rattle.pe_events.specs.declared.event.Event.TheVariants as event
 use Rattle.pe_events.specs.Timed.{Timed}
 use Rattle.pe_script.specs.Reading.{Reading, Silent, Refusal, Says, reading_of}
 use Rattle.pe_rules.specs.History.{History}

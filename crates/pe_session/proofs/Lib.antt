@@ -1,4 +1,5 @@
 pub mod Texts
+pub mod Words
 pub mod Stretches
 pub mod Outcomes
 pub mod Clauses

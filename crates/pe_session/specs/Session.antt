@@ -1,7 +1,7 @@
 -- What a session stands for, and what it adds to the text.
 -- This project's own.
 -- A session has judged each line that is whole in the bytes taken, and holds what follows.
-use Rattle.std.specs.Prelude.{◌≡◌, ℕ, ◌+◌, ◌||◌, Bool, false, List, [], ◌∷◌, ◌++◌, length, map, Option}
+use Rattle.std.specs.Prelude.{◌≡◌, ℕ, ◌+◌, ◌||◌, Bool, false, List, [], ◌∷◌, ◌++◌, length, Option}
 use Rattle.pe_lines.specs.Cutting.{Cuts}
 use Rattle.pe_lines.specs.Lines.{ended_lines_or_too_long}
 use Rattle.pe_rules.specs.History.{History}

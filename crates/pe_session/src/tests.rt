@@ -482,7 +482,11 @@ fn a_sink_that_fails_at_each_of_its_calls(rt: HostRuntime) -> Result<(), Fail> {
         let mut sink = MemSink::new(alloc, 65_536, Vec::new(alloc), fails)?;
         let status = run_within(alloc, 5000, 1_073_741_824, &mut source, &mut sink);
         let front = front_of_lines(SHOP_TEXT.as_bytes(), lines);
-        assert_eq!(rt; sink.as_slice(), &SHOP_TEXT.as_bytes()[..front], "call {call}");
+        assert_eq!(rt;
+            sink.as_slice(),
+            &SHOP_TEXT.as_bytes()[..front],
+            "call {call}"
+        );
         let wanted = if call == 22 {
             Status::Clean
         } else {
