@@ -72,7 +72,7 @@ own-test-alike top o p h = sym (own-test top o) ∙ ap is_some h ∙ own-test to
 
 -- a message of the page is one message in both
 pub own-alike : (top : ℕ) (o p : Option Message) → own top o ≡ own top p → is_own top o ≡ true → o ≡ p
-own-alike top o p h yes = sym (own-is top o yes) ∙ h ∙ own-is top p (sym (own-test-alike top o p h) ∙ yes)
+own-alike top o p h passes = sym (own-is top o passes) ∙ h ∙ own-is top p (sym (own-test-alike top o p h) ∙ passes)
 
 own-cond : (top : ℕ) (b : Bool) (o p : Option Message) → own top (cond b o p) ≡ cond b (own top o) (own top p)
 own-cond top true o p = refl
@@ -110,11 +110,11 @@ unfolding consumes_history
 second-after-alike r s d before one = λ i. cond (history-alike r s.event s.item (page-alike r d i) i && current-alike r d i) (one i) before
 
 -- a delivery of the same message hands over the same
-hands-alike : (top : ℕ) {T U : RepliedHistory} (e : Event) (item : StepAnswer) (d : ℕ) (capability : Capability) → ((m : ℕ) → is_delivery_of e m ≡ true → message T m ≡ message U m)
+hands-alike : (T U : RepliedHistory) (e : Event) (item : StepAnswer) (d : ℕ) (capability : Capability) → ((m : ℕ) → is_delivery_of e m ≡ true → message T m ≡ message U m)
     → hands_over e item T d capability ≡ hands_over e item U d capability
-hands-alike top (event.Deliver m) item d capability one = λ i.
+hands-alike T U (event.Deliver m) item d capability one = λ i.
     is_delivered item && unwrap_or (option_map (λ (x : Message). x.target == d && is_same_capability x.capability capability) (one m (is-same m) i)) false
-hands-alike top e item d capability one = refl
+hands-alike T U e item d capability one = refl
 
 -- ---- positions
 
@@ -212,7 +212,7 @@ module _ (laws : HistoryLaws) (top : ℕ) where
       by_test false is = ap (λ b. is_own top (message T m) && b) (laws.numbering.is_message_older s T m (λ e. differs (subst (λ k. (k == suc (length T)) ≡ false) e is)))
         where
           differs : (suc (length T) == suc (length T)) ≡ false → ⊥
-          differs no = let yes : (suc (length T) == suc (length T)) ≡ true = is-same (suc (length T)) in cc
+          differs unlike = let alike : (suc (length T) == suc (length T)) ≡ true = is-same (suc (length T)) in cc
 
   pub made-kept : (s : Step) {T U : RepliedHistory} → Agrees top T U → (m : ℕ) → is_made_in top (s ∷ T) m ≡ is_made_in top (s ∷ U) m
   made-kept s {T} {U} a m =
@@ -300,7 +300,7 @@ module _ (laws : HistoryLaws) (top : ℕ) where
           let older : delegated_at T d capability ≡ delegated_at U d capability =
                   a.delegated d capability (both (is_current T d) (not (ends (frames_above T d) s.event)) (sym (laws.current.is_current_older s T d le) ∙ current)).0 (sym (laws.embedders.page_older s T d le) ∙ h) in
           laws.delegation.delegated_step s T d capability le
-          ∙ (λ i. cond (hands-alike top {T} {U} s.event s.item d capability one i) (Some s.time) (cond (spends s.event s.item (frame-of-alike a.alike d i) capability) None (older i)))
+          ∙ (λ i. cond (hands-alike T U s.event s.item d capability one i) (Some s.time) (cond (spends s.event s.item (frame-of-alike a.alike d i) capability) None (older i)))
           ∙ sym (laws.delegation.delegated_step s U d capability (subst (λ n. d ≤ n) (length-alike a.alike) le))
       by_place false is =
           let past : length T < d = late d (length T) is in

@@ -37,7 +37,7 @@ use Rattle.pe_isolation.proofs.Stored.{state-alike}
 use Rattle.pe_isolation.proofs.Prompted.{waiting-alike}
 use Rattle.pe_isolation.proofs.Listed.{found-alike, join-alike}
 use Rattle.pe_isolation.proofs.Pages.{then-same, map-same, shown-last, shown-page, this-page}
-use Rattle.pe_isolation.proofs.Beside.{own, is_own}
+use Rattle.pe_isolation.proofs.Beside.{is_own}
 use Rattle.pe_isolation.proofs.Agreeing.{Agrees, own-alike}
 
 -- ---- answers that are the same for every page
@@ -127,45 +127,45 @@ module _ (laws : HistoryLaws) (duration top now : ℕ) {T U : RepliedHistory} (a
 
   pub answer-own : (e : Event) → is_foreign T top e ≡ false → asks_elsewhere T top e ≡ false → answer_of duration T now e ≡ answer_of duration U now e
   unfolding is_foreign asks_elsewhere answer_of
-  answer-own (event.OpenPage url header) own asked = λ i. answer.FrameMade (length-alike a.alike i + 1) (length-alike a.alike i + 1) (new-origin-alike a.alike now (event.OpenPage url header) i)
-  answer-own (event.Embed parent src place allow sandbox fullscreen srcdoc header) own asked = λ i.
+  answer-own (event.OpenPage url header) mine asked = λ i. answer.FrameMade (length-alike a.alike i + 1) (length-alike a.alike i + 1) (new-origin-alike a.alike now (event.OpenPage url header) i)
+  answer-own (event.Embed parent src place allow sandbox fullscreen srcdoc header) mine asked = λ i.
       answer.FrameMade (length-alike a.alike i + 1) (length-alike a.alike i + 1) (new-origin-alike a.alike now (event.Embed parent src place allow sandbox fullscreen srcdoc header) i)
-  answer-own (event.Navigate frame url header) own asked = λ i. answer.DocMade (length-alike a.alike i + 1) (new-origin-alike a.alike now (event.Navigate frame url header) i)
-  answer-own (event.Attr frame name value) own asked = refl
-  answer-own (event.Close frame) own asked = refl
-  answer-own (event.Input frame kind) own asked = λ i. cond (triggers kind) (answer.Activated (count-alike a.alike (event.Input frame kind) i)) answer.Ignored
-  answer-own (event.Ask frame) own asked =
+  answer-own (event.Navigate frame url header) mine asked = λ i. answer.DocMade (length-alike a.alike i + 1) (new-origin-alike a.alike now (event.Navigate frame url header) i)
+  answer-own (event.Attr frame name value) mine asked = refl
+  answer-own (event.Close frame) mine asked = refl
+  answer-own (event.Input frame kind) mine asked = λ i. cond (triggers kind) (answer.Activated (count-alike a.alike (event.Input frame kind) i)) answer.Ignored
+  answer-own (event.Ask frame) mine asked =
       ap answer_or_done (of-shown-map frame (λ d. answer.Activity (has_sticky T d) (has_transient duration T now d)) (λ d. answer.Activity (has_sticky U d) (has_transient duration U now d)) asked
       (λ d current h i. answer.Activity (sticky-own d h i) (transient-own d h i)))
-  answer-own (event.History frame) own asked =
-      ap answer_or_done (of-shown-map frame (λ d. answer_of_history_action (has_history_activation T d)) (λ d. answer_of_history_action (has_history_activation U d)) own (λ d current h i. answer_of_history_action (history-own d h i)))
-  answer-own (event.PolicyOf frame feature) own asked = λ i. answer_or_done (option_and_then (λ d. option_map (λ f. answer_of_denial (why-alike a.alike f d i)) (feature_named feature)) (document-in-alike a.alike frame i))
-  answer-own (event.Features frame) own asked = λ i. answer_or_done (option_map (λ d. answer.Names (map (λ f. allowed-alike a.alike d f i) all_features)) (document-in-alike a.alike frame i))
-  answer-own (event.UseCall frame call) own asked =
-      ap answer_or_done (of-shown frame (λ d. option_map (λ c. answer_of_verdict (verdict_of duration T now d c)) (call_named call)) (λ d. option_map (λ c. answer_of_verdict (verdict_of duration U now d c)) (call_named call)) own
+  answer-own (event.History frame) mine asked =
+      ap answer_or_done (of-shown-map frame (λ d. answer_of_history_action (has_history_activation T d)) (λ d. answer_of_history_action (has_history_activation U d)) mine (λ d current h i. answer_of_history_action (history-own d h i)))
+  answer-own (event.PolicyOf frame feature) mine asked = λ i. answer_or_done (option_and_then (λ d. option_map (λ f. answer_of_denial (why-alike a.alike f d i)) (feature_named feature)) (document-in-alike a.alike frame i))
+  answer-own (event.Features frame) mine asked = λ i. answer_or_done (option_map (λ d. answer.Names (map (λ f. allowed-alike a.alike d f i) all_features)) (document-in-alike a.alike frame i))
+  answer-own (event.UseCall frame call) mine asked =
+      ap answer_or_done (of-shown frame (λ d. option_map (λ c. answer_of_verdict (verdict_of duration T now d c)) (call_named call)) (λ d. option_map (λ c. answer_of_verdict (verdict_of duration U now d c)) (call_named call)) mine
       (λ d current h i. option_map (λ c. answer_of_verdict (verdict-own d current h c i)) (call_named call)))
-  answer-own (event.Query frame feature) own asked = λ i.
+  answer-own (event.Query frame feature) mine asked = λ i.
       answer_or_done (option_and_then (λ d. option_map (λ f. answer.StatusMade (length-alike a.alike i + 1) (state-alike a.alike now d f i)) (feature_named feature)) (document-in-alike a.alike frame i))
-  answer-own (event.DropStatus status) own asked = refl
-  answer-own (event.Request frame feature) own asked = λ i.
+  answer-own (event.DropStatus status) mine asked = refl
+  answer-own (event.Request frame feature) mine asked = λ i.
       answer_or_done (option_map (λ s. answer_of_request s (length-alike a.alike i + 1) (join-alike a.alike frame feature i)) (found-alike a.alike now frame feature i))
-  answer-own (event.Answered prompt out given) own asked = λ i. answer.Settled (length (waiting-alike a.alike prompt i)) (state_replied out)
-  answer-own (event.SetState feature first second state span) own asked = refl
-  answer-own (event.Post sender target named capability) own asked =
-      ap answer_or_done (of-shown-map sender (λ d. answer_of_post (length T + 1) (post_reason duration T now d named capability)) (λ d. answer_of_post (length U + 1) (post_reason duration U now d named capability)) own
+  answer-own (event.Answered prompt out given) mine asked = λ i. answer.Settled (length (waiting-alike a.alike prompt i)) (state_replied out)
+  answer-own (event.SetState feature first second state span) mine asked = refl
+  answer-own (event.Post sender target named capability) mine asked =
+      ap answer_or_done (of-shown-map sender (λ d. answer_of_post (length T + 1) (post_reason duration T now d named capability)) (λ d. answer_of_post (length U + 1) (post_reason duration U now d named capability)) mine
       (λ d current h i. answer_of_post (length-alike a.alike i + 1) (post-own d h named capability i)))
-  answer-own (event.Deliver m) own asked =
-      ap (λ o. answer_or_done (option_map (answer_of_delivery T) o)) (own-alike top (message T m) (message U m) (a.message m) (own-delivery top (message T m) own))
+  answer-own (event.Deliver m) mine asked =
+      ap (λ o. answer_or_done (option_map (answer_of_delivery T) o)) (own-alike top (message T m) (message U m) (a.message m) (own-delivery top (message T m) mine))
       ∙ (λ i. answer_or_done (option_map (λ x. delivery-alike a.alike x i) (message U m)))
-  answer-own event.Tick own asked = refl
+  answer-own event.Tick mine asked = refl
 
   verdict-replied-own : (frame : ℕ) (call : List ℕ) → is_other_page (page_of_frame T frame) top ≡ false → verdict_replied duration T now frame call ≡ verdict_replied duration U now frame call
   unfolding verdict_replied
-  verdict-replied-own frame call own =
-      of-shown frame (λ d. option_map (verdict_of duration T now d) (call_named call)) (λ d. option_map (verdict_of duration U now d) (call_named call)) own
+  verdict-replied-own frame call mine =
+      of-shown frame (λ d. option_map (verdict_of duration T now d) (call_named call)) (λ d. option_map (verdict_of duration U now d) (call_named call)) mine
       (λ d current h i. option_map (λ c. verdict-own d current h c i) (call_named call))
 
   pub step-answer-own : (e : Event) → is_foreign T top e ≡ false → asks_elsewhere T top e ≡ false → step_answer duration T now e ≡ step_answer duration U now e
   unfolding is_foreign
-  step-answer-own (event.UseCall frame call) own asked = ap (λ o. unwrap_or (option_map Judged o) (Replied answer.Done)) (verdict-replied-own frame call own)
-  step-answer-own e own asked = ap Replied (answer-own e own asked)
+  step-answer-own (event.UseCall frame call) mine asked = ap (λ o. unwrap_or (option_map Judged o) (Replied answer.Done)) (verdict-replied-own frame call mine)
+  step-answer-own e mine asked = ap Replied (answer-own e mine asked)

@@ -6,7 +6,7 @@ use Rattle.pe_features.specs.declared.capability.Capability.{Capability}
 use Rattle.pe_events.specs.Timed.{Timed}
 use Rattle.pe_events.specs.declared.event.Event.{Event}
 use Rattle.pe_events.specs.declared.event.Event.TheVariants as event
-use Rattle.pe_events.specs.declared.input.InputKind.{InputKind}
+use Rattle.pe_base.specs.declared.input.InputKind.{InputKind}
 use Rattle.pe_rules.specs.History.{StepAnswer, Step, RepliedHistory, History, some_if}
 use Rattle.pe_rules.specs.Numbering.{makes_message, makes_prompt}
 use Rattle.pe_rules.specs.Making.{frame_of}
@@ -81,13 +81,13 @@ foreign-post : (top : ℕ) (T : RepliedHistory) (sender target : ℕ) (named : O
 foreign-post top T sender target named capability other = by_target (document_in T target)
   where
     by_name : (d p : ℕ) → (p == top) ≡ false → (o : Option Capability) → own top (option_map (λ c. record { page = p; target = d; origin = option_and_then word_origin named; capability = c }) o) ≡ None
-    by_name d p no None = refl
-    by_name d p no (Some c) = rw no refl
+    by_name d p fails None = refl
+    by_name d p fails (Some c) = rw fails refl
 
     by_page : (d : ℕ) (o : Option ℕ) → unwrap_or (option_map (λ p. p == top) o) false ≡ false
         → own top (option_and_then (λ p. option_map (λ c. record { page = p; target = d; origin = option_and_then word_origin named; capability = c }) (capability_named capability)) o) ≡ None
-    by_page d None no = refl
-    by_page d (Some p) no = by_name d p no (capability_named capability)
+    by_page d None fails = refl
+    by_page d (Some p) fails = by_name d p fails (capability_named capability)
 
     by_target : (o : Option ℕ)
         → own top (option_and_then (λ d. option_and_then (λ p. option_map (λ c. record { page = p; target = d; origin = option_and_then word_origin named; capability = c }) (capability_named capability)) (page_of_frame T sender)) o) ≡ None
@@ -103,10 +103,10 @@ foreign-message top (Some x) h = not-this (Some x.page) top h
 module _ (laws : HistoryLaws) (duration top : ℕ) (H : History) (regular : IsTrue (is_regular duration H)) where
   input-other : (frame : ℕ) (kind : InputKind) (d : ℕ) → is_other_page (page_of_frame (replied duration H) frame) top ≡ true → page (replied duration H) d ≡ top → activates (event.Input frame kind) (replied duration H) d ≡ false
   unfolding activates
-  input-other frame kind d other own = ap (λ b. triggers kind && b) (by_shown (document_in (replied duration H) frame) refl) ∙ and-false (triggers kind)
+  input-other frame kind d other here = ap (λ b. triggers kind && b) (by_shown (document_in (replied duration H) frame) refl) ∙ and-false (triggers kind)
     where
       by_reach : (c : ℕ) → document_in (replied duration H) frame ≡ Some c → (b : Bool) → reaches (replied duration H) c d ≡ b → b ≡ false
-      by_reach c at true is = absurd (other-page (page (replied duration H) c) (page_of_frame (replied duration H) frame) top (shown-page (replied duration H) frame c at) other (reaches-page laws (replied duration H) c d is ∙ own))
+      by_reach c at true is = absurd (other-page (page (replied duration H) c) (page_of_frame (replied duration H) frame) top (shown-page (replied duration H) frame c at) other (reaches-page laws (replied duration H) c d is ∙ here))
       by_reach c at false is = refl
 
       by_shown : (o : Option ℕ) → document_in (replied duration H) frame ≡ o → unwrap_or (option_map (λ c. reaches (replied duration H) c d) o) false ≡ false
@@ -114,13 +114,13 @@ module _ (laws : HistoryLaws) (duration top : ℕ) (H : History) (regular : IsTr
       by_shown (Some c) at = by_reach c at (reaches (replied duration H) c d) refl
 
   delivery-other : (m d : ℕ) (item : StepAnswer) (capability : Capability) → is_own top (message (replied duration H) m) ≡ false → page (replied duration H) d ≡ top → hands_over (event.Deliver m) item (replied duration H) d capability ≡ false
-  delivery-other m d item capability no own = ap (λ b. is_delivered item && b) (by_message (message (replied duration H) m) refl no) ∙ and-false (is_delivered item)
+  delivery-other m d item capability not_own here = ap (λ b. is_delivered item && b) (by_message (message (replied duration H) m) refl not_own) ∙ and-false (is_delivered item)
     where
       by_target : (x : Message) → message (replied duration H) m ≡ Some x → (x.page == top) ≡ false → (b : Bool) → (x.target == d) ≡ b → (b && is_same_capability x.capability capability) ≡ false
       by_target x at other true is =
-          let one : x.page ≡ top = message-page laws duration H regular m x at ∙ ap (page (replied duration H)) (same-numbers x.target d is) ∙ own in
-          let yes : (top == top) ≡ false = subst (λ p. (p == top) ≡ false) one other in
-          absurd (other-page top (Some top) top refl (ap not yes) refl)
+          let one : x.page ≡ top = message-page laws duration H regular m x at ∙ ap (page (replied duration H)) (same-numbers x.target d is) ∙ here in
+          let unlike : (top == top) ≡ false = subst (λ p. (p == top) ≡ false) one other in
+          absurd (other-page top (Some top) top refl (ap not unlike) refl)
       by_target x at other false is = refl
 
       by_message : (o : Option Message) → message (replied duration H) m ≡ o → is_own top o ≡ false → unwrap_or (option_map (λ x. x.target == d && is_same_capability x.capability capability) o) false ≡ false
@@ -129,12 +129,12 @@ module _ (laws : HistoryLaws) (duration top : ℕ) (H : History) (regular : IsTr
 
   use-other : (frame : ℕ) (call : List ℕ) (item : StepAnswer) (d : ℕ) (capability : Capability) → is_other_page (page_of_frame (replied duration H) frame) top ≡ true → is_current (replied duration H) d ≡ true → page (replied duration H) d ≡ top
       → spends (event.UseCall frame call) item (frame_of (replied duration H) d) capability ≡ false
-  use-other frame call item d capability other current own = by_frame (frame == frame_of (replied duration H) d) refl
+  use-other frame call item d capability other current here = by_frame (frame == frame_of (replied duration H) d) refl
     where
       by_frame : (b : Bool) → (frame == frame_of (replied duration H) d) ≡ b → (is_by_delegated item && b && is_call_of call capability) ≡ false
       by_frame true is =
           let shown : document_in (replied duration H) frame ≡ Some d = ap (document_in (replied duration H)) (same-numbers frame (frame_of (replied duration H) d) is) ∙ laws.current.shown_in_frame duration H d regular current in
-          absurd (other-page (page (replied duration H) d) (page_of_frame (replied duration H) frame) top (shown-page (replied duration H) frame d shown) other own)
+          absurd (other-page (page (replied duration H) d) (page_of_frame (replied duration H) frame) top (shown-page (replied duration H) frame d shown) other here)
       by_frame false is = rest (is_by_delegated item)
         where
           rest : (b : Bool) → (b && false && is_call_of call capability) ≡ false

@@ -23,6 +23,10 @@ use Rattle.pe_isolation.proofs.Beside.{own, is_own, IsBeside}
 use Rattle.pe_isolation.proofs.Agreeing.{Agrees, late, early, stamp-after-alike, second-after-alike, first-older, second-older, first-left, second-left, message-kept, message-left, made-kept, made-left, settled-kept, settled-left, delegated-kept, delegated-left, is_made_in, is_settled_in}
 use Rattle.pe_isolation.proofs.Waiting.{waiting-kept, waiting-left}
 
+-- what is read after one of two equal steps is read after the other
+carried : {A : Type 0} (read : RepliedHistory → A) (U : RepliedHistory) (s u : Step) → s ≡ u → read (s ∷ U) ≡ read (u ∷ U)
+carried read U s u one = ap (λ (x : Step). read (x ∷ U)) one
+
 module _ (laws : HistoryLaws) (top : ℕ) where
   -- by a step of which the same is told in both
   pub kept : (duration : ℕ) (H K : History) (e : Timed) → IsTrue (is_regular duration H) → IsTrue (is_regular duration K) → Agrees top (replied duration H) (replied duration K)
@@ -33,25 +37,25 @@ module _ (laws : HistoryLaws) (top : ℕ) where
       let T = replied duration H in
       let U = replied duration K in
       let s = step_of duration H e in
-      let to : {A : Type 0} (f : RepliedHistory → A) → f (s ∷ U) ≡ f (replied duration (e ∷ K)) = λ f. ap (λ (x : Step). f (x ∷ U)) one in record {
+      let u = step_of duration K e in record {
         alike = subst (λ (x : Step). Alike (s ∷ T) (x ∷ U)) one (same s a.alike);
         first = λ d h.
             laws.activation.stamp_step s T d
             ∙ stamp-after-alike a.alike s d (stamp_of T d)
             ∙ ap (λ before. stamp_after s U d before) (first-older laws top a s d h)
             ∙ sym (laws.activation.stamp_step s U d)
-            ∙ to (λ V. stamp_of V d);
+            ∙ carried (λ V. stamp_of V d) U s u one;
         second = λ d h.
             laws.history_activation.second_stamp_step s T d
             ∙ second-after-alike a.alike s d (second_stamp_of T d) (first-older laws top a s d h)
             ∙ ap (λ before. second_stamp_after s U d before) (second-older laws top a s d h)
             ∙ sym (laws.history_activation.second_stamp_step s U d)
-            ∙ to (λ V. second_stamp_of V d);
-        message = λ m. message-kept laws top s a m ∙ to (λ V. own top (message V m));
-        made = λ m. made-kept laws top s a m ∙ to (λ V. is_made_in top V m);
-        settled = λ m. settled-kept laws top duration H K s regular also a m ∙ to (λ V. is_settled_in top V m);
+            ∙ carried (λ V. second_stamp_of V d) U s u one;
+        message = λ m. message-kept laws top s a m ∙ carried (λ V. own top (message V m)) U s u one;
+        made = λ m. made-kept laws top s a m ∙ carried (λ V. is_made_in top V m) U s u one;
+        settled = λ m. settled-kept laws top duration H K s regular also a m ∙ carried (λ V. is_settled_in top V m) U s u one;
         waiting = waiting-kept laws top duration H K e regular also a one;
-        delegated = λ d capability current h. delegated-kept laws top s a deliveries d capability current h ∙ to (λ V. delegated_at V d capability);
+        delegated = λ d capability current h. delegated-kept laws top s a deliveries d capability current h ∙ carried (λ V. delegated_at V d capability) U s u one;
       }
 
   -- by two steps beside the page, at one time

@@ -22,7 +22,7 @@ use Rattle.pe_isolation.proofs.Stored.{state-alike}
 use Rattle.pe_isolation.proofs.Listed.{statuses-alike}
 use Rattle.pe_isolation.proofs.Pages.{same-numbers, is-same}
 use Rattle.pe_isolation.proofs.Posted.{accepted}
-use Rattle.pe_isolation.proofs.Beside.{own, is_own, IsBeside, tick-beside, ask-beside, foreign-beside}
+use Rattle.pe_isolation.proofs.Beside.{is_own, IsBeside, tick-beside, ask-beside, foreign-beside}
 use Rattle.pe_isolation.proofs.Agreeing.{Agrees}
 use Rattle.pe_isolation.proofs.Going.{kept, beside}
 use Rattle.pe_isolation.proofs.Answered.{own-delivery, answer-own, step-answer-own}
@@ -46,8 +46,8 @@ quiet-requests e item h = refl
 -- the message of a delivery that is not muted is one of the page
 delivery-own : (T : RepliedHistory) (top : ℕ) (e : Event) → is_foreign T top e ≡ false → (m : ℕ) → is_delivery_of e m ≡ true → is_own top (message T m) ≡ true
 unfolding is_foreign
-delivery-own T top (event.Deliver n) own m is = ap (λ k. is_own top (message T k)) (sym (same-numbers n m is)) ∙ own-delivery top (message T n) own
-delivery-own T top e own m is = cc
+delivery-own T top (event.Deliver n) mine m is = ap (λ k. is_own top (message T k)) (sym (same-numbers n m is)) ∙ own-delivery top (message T n) mine
+delivery-own T top e mine m is = cc
 
 no-other : (o : Option ℕ) (top : ℕ) → o ≡ Some top → is_other_page o top ≡ false
 no-other o top h = ap (λ x. is_other_page x top) h ∙ ap not (is-same top)
@@ -102,17 +102,17 @@ module _ (laws : HistoryLaws) (duration top : ℕ) where
 
   muted-step : (e : Timed) (H K : History) → IsTrue (is_regular duration H) → accepts duration H e ≡ true → is_foreign (replied duration H) top e.event ≡ true → IsRegularAlike duration top H K
       → IsRegularAlike duration top (e ∷ H) (tick_at e ∷ K)
-  muted-step e H K regular ok own is = record {
+  muted-step e H K regular ok mine is = record {
     regular = is-regular duration (tick_at e) K is.regular (is-accepted duration K (tick_at e) (tick-accepted laws is.agrees.alike e.time e.event (accepted duration H e ok)));
     agrees = beside laws top duration H K e (tick_at e) regular is.regular is.agrees refl
-        (foreign-beside laws duration top H regular e.event (step_answer duration (replied duration H) e.time e.event) (quiet-told H e (foreign-quiet (replied duration H) top e.event own)) own)
+        (foreign-beside laws duration top H regular e.event (step_answer duration (replied duration H) e.time e.event) (quiet-told H e (foreign-quiet (replied duration H) top e.event mine)) mine)
         (tick-beside top (step_answer duration (replied duration K) e.time event.Tick) (replied duration K) (quiet-told K (tick_at e) refl));
   }
 
   own-step : (e : Timed) (H K : History) → IsTrue (is_regular duration H) → accepts duration H e ≡ true → is_foreign (replied duration H) top e.event ≡ false → IsRegularAlike duration top H K
       → IsRegularAlike duration top (e ∷ H) (e ∷ K)
-  own-step e H K regular ok own is = record {
-    regular = is-regular duration e K is.regular (is-accepted duration K e (sym (cause-own top is.agrees e.time e.event own) ∙ accepted duration H e ok));
+  own-step e H K regular ok mine is = record {
+    regular = is-regular duration e K is.regular (is-accepted duration K e (sym (cause-own top is.agrees e.time e.event mine) ∙ accepted duration H e ok));
     agrees = by_ask (ask e.event);
   }
     where
@@ -123,10 +123,10 @@ module _ (laws : HistoryLaws) (duration top : ℕ) where
                   λ G. subst (λ (x : Event). IsBeside top x (step_answer duration (replied duration G) e.time e.event) (replied duration G)) (sym asked)
                       (ask-beside top frame (step_answer duration (replied duration G) e.time e.event) (replied duration G) (silent G)) in
           beside laws top duration H K e e regular is.regular is.agrees refl (of H) (of K)
-      by_ask (other no) =
+      by_ask (other none) =
           kept laws top duration H K e regular is.regular is.agrees
-          (λ i. record { time = e.time; event = e.event; item = step-answer-own laws duration top e.time is.agrees e.event own (no (replied duration H) top) i })
-          (delivery-own (replied duration H) top e.event own)
+          (λ i. record { time = e.time; event = e.event; item = step-answer-own laws duration top e.time is.agrees e.event mine (none (replied duration H) top) i })
+          (delivery-own (replied duration H) top e.event mine)
 
   isolated : (H : History) → IsTrue (is_regular duration H) → IsRegularAlike duration top H (muted duration top H)
   unfolding replied muted muted_event is_regular
@@ -149,8 +149,8 @@ module _ (laws : HistoryLaws) (duration top : ℕ) where
     where
       by_test : (b : Bool) → is_foreign (replied duration H) top e.event ≡ b → IsTrue (is_regular duration H) → accepts duration H e ≡ true → IsRegularAlike duration top H (muted duration top H)
           → IsRegularAlike duration top (e ∷ H) (cond b (tick_at e) e ∷ muted duration top H)
-      by_test true own before ok is = muted-step e H (muted duration top H) before ok own is
-      by_test false own before ok is = own-step e H (muted duration top H) before ok own is
+      by_test true mine before ok is = muted-step e H (muted duration top H) before ok mine is
+      by_test false mine before ok is = own-step e H (muted duration top H) before ok mine is
 
 -- ---- changes
 
@@ -177,11 +177,11 @@ module _ (laws : HistoryLaws) where
 
   pub unmuted-cause : (duration top now : ℕ) (H : History) (e : Event) → IsTrue (is_regular duration H) → is_foreign (replied duration H) top e ≡ false
       → cause_of (replied duration H) now e ≡ cause_of (replied_muted duration top H) now e
-  unmuted-cause duration top now H e is own = cause-own top (isolated laws duration top H is).agrees now e own
+  unmuted-cause duration top now H e is mine = cause-own top (isolated laws duration top H is).agrees now e mine
 
   pub unmuted-answer : (duration top now : ℕ) (H : History) (e : Event) → IsTrue (is_regular duration H) → IsUnmuted (replied duration H) top e
       → answer_of duration (replied duration H) now e ≡ answer_of duration (replied_muted duration top H) now e
-  unmuted-answer duration top now H e is own = answer-own laws duration top now (isolated laws duration top H is).agrees e own.own own.asked
+  unmuted-answer duration top now H e is mine = answer-own laws duration top now (isolated laws duration top H is).agrees e mine.own mine.asked
 
   pub page-cause : (duration top now : ℕ) (H : History) (e : Event) → IsTrue (is_regular duration H) → IsOfPage (replied duration H) top e
       → cause_of (replied duration H) now e ≡ cause_of (replied_muted duration top H) now e

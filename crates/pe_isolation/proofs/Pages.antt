@@ -83,11 +83,11 @@ not-this o top h = by_test (unwrap_or (option_map (λ p. p == top) o) false) h
 
 pub other-page : (p : ℕ) (o : Option ℕ) (top : ℕ) → o ≡ Some p → is_other_page o top ≡ true → p ≡ top → ⊥
 other-page p o top is h same =
-    let no : (p == top) ≡ false = ap (λ x. unwrap_or (option_map (λ q. q == top) x) false) (sym is) ∙ not-this o top h in
-    absurd-by (subst (λ x. (p == x) ≡ false) (sym same) no)
+    let unlike : (p == top) ≡ false = ap (λ x. unwrap_or (option_map (λ q. q == top) x) false) (sym is) ∙ not-this o top h in
+    absurd-by (subst (λ x. (p == x) ≡ false) (sym same) unlike)
   where
     absurd-by : (p == p) ≡ false → ⊥
-    absurd-by e = let yes : (p == p) ≡ true = is-same p in cc
+    absurd-by e = let alike : (p == p) ≡ true = is-same p in cc
 
 -- ---- what an input reaches
 

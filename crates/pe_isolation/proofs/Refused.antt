@@ -23,7 +23,7 @@ use Rattle.pe_isolation.proofs.Prompted.{settled-alike, waiting-alike, pending-a
 use Rattle.pe_isolation.proofs.Listed.{statuses-alike, live-pages-alike, live-frames-alike, page-statuses-alike, found-alike, join-alike, exceeds-store-alike}
 use Rattle.pe_rules.specs.Prompts.{pending}
 use Rattle.pe_isolation.proofs.Pages.{this-page}
-use Rattle.pe_isolation.proofs.Beside.{own, is_own}
+use Rattle.pe_isolation.proofs.Beside.{is_own}
 use Rattle.pe_isolation.proofs.Agreeing.{Agrees, is_made_in, is_settled_in, own-test-alike}
 use Rattle.pe_isolation.proofs.Answered.{own-delivery}
 
@@ -79,30 +79,30 @@ exceeds-statuses-alike r e = refl
 module _ (top : ℕ) {T U : RepliedHistory} (a : Agrees top T U) where
   -- of a message of the page one test says the same in both, where it does with the test of the page before it
   beside-own : (m : ℕ) (b c : Bool) → is_other_page (option_map (λ x. x.page) (message T m)) top ≡ false → (is_own top (message T m) && b) ≡ (is_own top (message U m) && c) → b ≡ c
-  beside-own m b c own one =
-      let yes : is_own top (message T m) ≡ true = own-delivery top (message T m) own in
-      ap (λ x. x && b) (sym yes) ∙ one ∙ ap (λ x. x && c) (sym (own-test-alike top (message T m) (message U m) (a.message m)) ∙ yes)
+  beside-own m b c mine one =
+      let passes : is_own top (message T m) ≡ true = own-delivery top (message T m) mine in
+      ap (λ x. x && b) (sym passes) ∙ one ∙ ap (λ x. x && c) (sym (own-test-alike top (message T m) (message U m) (a.message m)) ∙ passes)
 
   unknown-object : (e : Event) → is_foreign T top e ≡ false → names_unknown_object T e ≡ names_unknown_object U e
   unfolding is_foreign
-  unknown-object (event.DropStatus status) own = ap not (is-status-alike a.alike status)
-  unknown-object (event.Answered prompt out given) own = ap not (is-prompt-alike a.alike prompt)
-  unknown-object (event.Deliver m) own = ap not (beside-own m (is_message T m) (is_message U m) own (a.made m))
-  unknown-object e own = refl
+  unknown-object (event.DropStatus status) mine = ap not (is-status-alike a.alike status)
+  unknown-object (event.Answered prompt out given) mine = ap not (is-prompt-alike a.alike prompt)
+  unknown-object (event.Deliver m) mine = ap not (beside-own m (is_message T m) (is_message U m) mine (a.made m))
+  unknown-object e mine = refl
 
   unknown-own : (e : Event) → is_foreign T top e ≡ false → names_unknown T e ≡ names_unknown U e
   unfolding names_unknown
-  unknown-own e own = λ i. frames-known a.alike e i || unknown-object e own i
+  unknown-own e mine = λ i. frames-known a.alike e i || unknown-object e mine i
 
   settled-own : (e : Event) → is_foreign T top e ≡ false → names_settled T e ≡ names_settled U e
   unfolding is_foreign names_settled
-  settled-own (event.Answered prompt out given) own = settled-alike a.alike prompt
-  settled-own (event.Deliver m) own = beside-own m (is_message_settled T m) (is_message_settled U m) own (a.settled m)
-  settled-own e own = refl
+  settled-own (event.Answered prompt out given) mine = settled-alike a.alike prompt
+  settled-own (event.Deliver m) mine = beside-own m (is_message_settled T m) (is_message_settled U m) mine (a.settled m)
+  settled-own e mine = refl
 
   -- a post counts the messages of its own page
   count-own : (frame : ℕ) → is_other_page (page_of_frame T frame) top ≡ false → count_in_page T frame (waiting_messages T) ≡ count_in_page U frame (waiting_messages U)
-  count-own frame own = by_page (page_of_frame T frame) own ∙ ap (λ o. unwrap_or (option_map (λ p. length (waiting_messages U p)) o) 0) (page-of-frame-alike a.alike frame)
+  count-own frame mine = by_page (page_of_frame T frame) mine ∙ ap (λ o. unwrap_or (option_map (λ p. length (waiting_messages U p)) o) 0) (page-of-frame-alike a.alike frame)
     where
       by_page : (o : Option ℕ) → is_other_page o top ≡ false → unwrap_or (option_map (λ p. length (waiting_messages T p)) o) 0 ≡ unwrap_or (option_map (λ p. length (waiting_messages U p)) o) 0
       by_page None h = refl
@@ -112,19 +112,19 @@ module _ (top : ℕ) {T U : RepliedHistory} (a : Agrees top T U) where
 
   pending-own : (now : ℕ) (e : Event) → is_foreign T top e ≡ false → exceeds_pending T now e ≡ exceeds_pending U now e
   unfolding is_foreign exceeds_pending
-  pending-own now (event.Request frame feature) own = λ i.
+  pending-own now (event.Request frame feature) mine = λ i.
       is_prompt_state (found-alike a.alike now frame feature i) && is_none (join-alike a.alike frame feature i)
       && nat_le PENDING_LIMIT (count-in-alike a.alike frame (pending T) (pending U) (pending-alike a.alike) i)
-  pending-own now (event.Post sender target named capability) own = ap (nat_le MESSAGE_LIMIT) (count-own sender own)
-  pending-own now e own = refl
+  pending-own now (event.Post sender target named capability) mine = ap (nat_le MESSAGE_LIMIT) (count-own sender mine)
+  pending-own now e mine = refl
 
   pub cause-own : (now : ℕ) (e : Event) → is_foreign T top e ≡ false → cause_of T now e ≡ cause_of U now e
   unfolding cause_of
-  cause-own now e own = λ i. first_some (λ (x : Cause × Bool). some_if x.1 x.0) (
+  cause-own now e mine = λ i. first_some (λ (x : Cause × Bool). some_if x.1 x.0) (
       (cause.LimitEvents, nat_le EVENT_LIMIT (length-alike a.alike i))
       ∷ (cause.TimeBack, nat_lt now (clock-alike a.alike i))
-      ∷ (cause.Unknown, unknown-own e own i)
-      ∷ (cause.Settled, settled-own e own i)
+      ∷ (cause.Unknown, unknown-own e mine i)
+      ∷ (cause.Settled, settled-own e mine i)
       ∷ (cause.Closed, closed-alike a.alike e i)
       ∷ (cause.NotShown, not-shown-alike a.alike e i)
       ∷ (cause.Url, has_bad_url e)
@@ -136,7 +136,7 @@ module _ (top : ℕ) {T U : RepliedHistory} (a : Agrees top T U) where
       ∷ (cause.LimitDepth, exceeds-depth-alike a.alike e i)
       ∷ (cause.LimitFrames, frames-alike a.alike e i)
       ∷ (cause.LimitStatuses, exceeds-statuses-alike a.alike e i)
-      ∷ (cause.LimitPending, pending-own now e own i)
+      ∷ (cause.LimitPending, pending-own now e mine i)
       ∷ (cause.LimitStore, exceeds-store-alike a.alike now e i)
       ∷ [])
 

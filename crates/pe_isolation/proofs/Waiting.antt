@@ -18,12 +18,12 @@ use Rattle.pe_isolation.proofs.Agreeing.{Agrees, own-test-alike, message-by-alik
 
 -- a list without the numbers that fail a test has none of them to take out
 taken-out : (test : ℕ → Bool) (m : ℕ) → test m ≡ false → (xs : List ℕ) → filter (λ j. not (m == j)) (filter test xs) ≡ filter test xs
-taken-out test m no [] = refl
-taken-out test m no (x ∷ xs) = by_test (test x) refl (taken-out test m no xs)
+taken-out test m fails [] = refl
+taken-out test m fails (x ∷ xs) = by_test (test x) refl (taken-out test m fails xs)
   where
     by_same : test x ≡ true → (b : Bool) → (m == x) ≡ b → filter (λ j. not (m == j)) (filter test xs) ≡ filter test xs
         → cond (not b) (x ∷ filter (λ j. not (m == j)) (filter test xs)) (filter (λ j. not (m == j)) (filter test xs)) ≡ x ∷ filter test xs
-    by_same passes true is later = let fails : test x ≡ false = ap test (sym (same-numbers m x is)) ∙ no in cc
+    by_same passes true is later = let differs : test x ≡ false = ap test (sym (same-numbers m x is)) ∙ fails in cc
     by_same passes false is later = ap (λ ys. x ∷ ys) later
 
     by_test : (b : Bool) → test x ≡ b → filter (λ j. not (m == j)) (filter test xs) ≡ filter test xs
