@@ -1,10 +1,10 @@
 -- A regular history agrees for each page with its muted one, which is regular too; and so pages are isolated.
-use Rattle.std.proofs.Common.{◌≡◌, ℕ, suc, ◌+◌, ◌-◌, Bool, true, false, not, ◌&&◌, ◌||◌, ◌==◌, cond, IsTrue, List, [], ◌∷◌, length, filter, flat_map, Option, Some, None, is_some, is_none, unwrap_or, option_map, option_and_then, option_to_list, refl, sym, ◌∙◌, ap, subst}
+use Rattle.std.proofs.Common.{◌≡◌, ℕ, suc, ◌+◌, ◌-◌, Bool, true, false, not, ◌&&◌, ◌||◌, ◌==◌, cond, IsTrue, List, [], ◌∷◌, ◌++◌, length, filter, flat_map, Option, Some, None, is_some, is_none, unwrap_or, option_map, option_and_then, option_to_list, refl, sym, ◌∙◌, ap, subst}
 use Rattle.std.specs.List.{list_any}
 use Rattle.pe_events.specs.Timed.{Timed}
 use Rattle.pe_events.specs.declared.event.Event.{Event}
 use Rattle.pe_events.specs.declared.event.Event.TheVariants as event
-use Rattle.pe_rules.specs.History.{StepAnswer, RepliedHistory, History}
+use Rattle.pe_rules.specs.History.{StepAnswer, RepliedHistory, History, some_if, all_answers}
 use Rattle.pe_rules.specs.Numbering.{makes_prompt}
 use Rattle.pe_rules.specs.Embedders.{page_of_frame}
 use Rattle.pe_rules.specs.Delegation.{message, is_delivery_of}
@@ -15,15 +15,16 @@ use Rattle.pe_rules.specs.Muting.{is_other_page, is_foreign, muted_event, muted}
 use Rattle.pe_laws.specs.HistoryLaws.{HistoryLaws}
 use Rattle.pe_laws.specs.Effects.{effects}
 use Rattle.pe_laws.specs.PromptsLaws.{step_of}
-use Rattle.pe_isolation.specs.PageEvents.{page_of_event, IsOfPage, asks_elsewhere, IsUnmuted}
+use Rattle.pe_isolation.specs.PageEvents.{page_of_event, is_of_page, page_answers, asks_elsewhere, IsUnmuted}
 use Rattle.pe_isolation.specs.IsolationLaws.{replied_muted}
 use Rattle.pe_isolation.proofs.Alike.{is_quiet, IsQuiet, Alike, start, same, quiet, length-alike, clock-alike}
-use Rattle.pe_isolation.proofs.Stored.{state-alike}
-use Rattle.pe_isolation.proofs.Listed.{statuses-alike}
-use Rattle.pe_isolation.proofs.Pages.{same-numbers, is-same}
+use Rattle.pe_isolation.proofs.Made.{page-alike, page-of-frame-alike}
+use Rattle.pe_isolation.proofs.Stored.{prompt-page-alike, state-alike}
+use Rattle.pe_isolation.proofs.Listed.{status-at-alike, statuses-alike}
+use Rattle.pe_isolation.proofs.Pages.{same-numbers}
 use Rattle.pe_isolation.proofs.Posted.{accepted}
 use Rattle.pe_isolation.proofs.Beside.{is_own, IsBeside, tick-beside, ask-beside, foreign-beside}
-use Rattle.pe_isolation.proofs.Agreeing.{Agrees}
+use Rattle.pe_isolation.proofs.Agreeing.{Agrees, own-alike}
 use Rattle.pe_isolation.proofs.Going.{kept, beside}
 use Rattle.pe_isolation.proofs.Answered.{own-delivery, answer-own, step-answer-own}
 use Rattle.pe_isolation.proofs.Refused.{cause-own, tick-accepted}
@@ -49,23 +50,50 @@ unfolding is_foreign
 delivery-own T top (event.Deliver n) mine m is = ap (λ k. is_own top (message T k)) (sym (same-numbers n m is)) ∙ own-delivery top (message T n) mine
 delivery-own T top e mine m is = cc
 
-no-other : (o : Option ℕ) (top : ℕ) → o ≡ Some top → is_other_page o top ≡ false
-no-other o top h = ap (λ x. is_other_page x top) h ∙ ap not (is-same top)
-
--- an event of the page is not muted, nor does it ask for the user activation of another
-page-own : (T : RepliedHistory) (top : ℕ) (e : Event) → IsOfPage T top e → is_foreign T top e ≡ false
+-- an event of the page is not muted, nor does it ask for the user activation of another; and one that is muted is none of the page
+page-own : (T : RepliedHistory) (top : ℕ) (e : Event) → IsTrue (is_of_page T top e) → is_foreign T top e ≡ false
 unfolding page_of_event is_foreign
-page-own T top (event.Input frame kind) h = no-other (page_of_frame T frame) top h
-page-own T top (event.History frame) h = no-other (page_of_frame T frame) top h
-page-own T top (event.UseCall frame call) h = no-other (page_of_frame T frame) top h
-page-own T top (event.Post sender target named capability) h = no-other (page_of_frame T sender) top h
-page-own T top (event.Deliver m) h = no-other (option_map (λ x. x.page) (message T m)) top h
+page-own T top (event.Input frame kind) h = ap not h
+page-own T top (event.History frame) h = ap not h
+page-own T top (event.UseCall frame call) h = ap not h
+page-own T top (event.Post sender target named capability) h = ap not h
+page-own T top (event.Deliver m) h = ap not h
 page-own T top e h = refl
 
-page-asks : (T : RepliedHistory) (top : ℕ) (e : Event) → IsOfPage T top e → asks_elsewhere T top e ≡ false
+page-asks : (T : RepliedHistory) (top : ℕ) (e : Event) → IsTrue (is_of_page T top e) → asks_elsewhere T top e ≡ false
 unfolding page_of_event asks_elsewhere
-page-asks T top (event.Ask frame) h = no-other (page_of_frame T frame) top h
+page-asks T top (event.Ask frame) h = ap not h
 page-asks T top e h = refl
+
+foreign-none : (T : RepliedHistory) (top : ℕ) (e : Event) → is_foreign T top e ≡ true → is_of_page T top e ≡ false
+foreign-none T top e h = by_test (is_of_page T top e) refl
+  where
+    by_test : (b : Bool) → is_of_page T top e ≡ b → b ≡ false
+    by_test true is = let never : is_foreign T top e ≡ false = page-own T top e is in cc
+    by_test false is = refl
+
+-- an event that is not muted is one of the same page in both
+event-page-alike : (top : ℕ) {T U : RepliedHistory} → Agrees top T U → (e : Event) → is_foreign T top e ≡ false → page_of_event T e ≡ page_of_event U e
+unfolding page_of_event is_foreign
+event-page-alike top a (event.OpenPage url header) mine = refl
+event-page-alike top a (event.Embed parent src place allow sandbox fullscreen srcdoc header) mine = page-of-frame-alike a.alike parent
+event-page-alike top a (event.Navigate frame url header) mine = page-of-frame-alike a.alike frame
+event-page-alike top a (event.Attr frame name value) mine = page-of-frame-alike a.alike frame
+event-page-alike top a (event.Close frame) mine = page-of-frame-alike a.alike frame
+event-page-alike top a (event.Input frame kind) mine = page-of-frame-alike a.alike frame
+event-page-alike top a (event.Ask frame) mine = page-of-frame-alike a.alike frame
+event-page-alike top a (event.History frame) mine = page-of-frame-alike a.alike frame
+event-page-alike top a (event.PolicyOf frame feature) mine = page-of-frame-alike a.alike frame
+event-page-alike top a (event.Features frame) mine = page-of-frame-alike a.alike frame
+event-page-alike top a (event.UseCall frame call) mine = page-of-frame-alike a.alike frame
+event-page-alike top a (event.Query frame feature) mine = page-of-frame-alike a.alike frame
+event-page-alike top a (event.DropStatus status) mine = λ i. option_map (λ x. page-alike a.alike x.document i) (status-at-alike a.alike status i)
+event-page-alike top a (event.Request frame feature) mine = page-of-frame-alike a.alike frame
+event-page-alike top a (event.Answered prompt out given) mine = prompt-page-alike a.alike prompt
+event-page-alike top a (event.SetState feature first second state span) mine = refl
+event-page-alike top a (event.Post sender target named capability) mine = page-of-frame-alike a.alike sender
+event-page-alike top {T} {U} a (event.Deliver m) mine = ap (option_map (λ x. x.page)) (own-alike top (message T m) (message U m) (a.message m) (own-delivery top (message T m) mine))
+event-page-alike top a event.Tick mine = refl
 
 -- the event asks for user activation, or it does not
 data IsAsk (e : Event) : Type 0 where
@@ -76,6 +104,10 @@ ask : (e : Event) → IsAsk e
 unfolding asks_elsewhere
 ask (event.Ask frame) = asks frame refl
 ask e = other (λ T top. refl)
+
+-- what was told at a position, where a test passes
+abbrev told_if : Bool → ℕ → StepAnswer → List (ℕ × StepAnswer)
+told_if b k item = option_to_list (some_if b (k, item))
 
 -- ---- the two histories
 
@@ -152,6 +184,31 @@ module _ (laws : HistoryLaws) (duration top : ℕ) where
       by_test true mine before ok is = muted-step e H (muted duration top H) before ok mine is
       by_test false mine before ok is = own-step e H (muted duration top H) before ok mine is
 
+  -- of an event that is not muted the same is told, where it is one of the page
+  told-own : (e : Timed) (H K : History) → is_foreign (replied duration H) top e.event ≡ false → IsRegularAlike duration top H K → (b : Bool) → is_of_page (replied duration H) top e.event ≡ b
+      → told_if b (suc (length (replied duration H))) (step_answer duration (replied duration H) e.time e.event)
+      ≡ told_if b (suc (length (replied duration K))) (step_answer duration (replied duration K) e.time e.event)
+  told-own e H K mine is true of = λ i. told_if true (suc (length-alike is.agrees.alike i)) (step-answer-own laws duration top e.time is.agrees e.event mine (page-asks (replied duration H) top e.event of) i)
+  told-own e H K mine is false of = refl
+
+  told-step : (e : Timed) (H K : History) → IsRegularAlike duration top H K → page_answers (replied duration H) top ≡ page_answers (replied duration K) top
+      → (b : Bool) → is_foreign (replied duration H) top e.event ≡ b → page_answers (replied duration (e ∷ H)) top ≡ page_answers (replied duration (cond b (tick_at e) e ∷ K)) top
+  unfolding replied page_answers all_answers page_of_event
+  told-step e H K is before true foreign =
+      ap (λ b. page_answers (replied duration H) top ++ told_if b (suc (length (replied duration H))) (step_answer duration (replied duration H) e.time e.event)) (foreign-none (replied duration H) top e.event foreign)
+      ∙ ap (λ xs. xs ++ []) before
+  told-step e H K is before false mine = λ i.
+      before i
+      ++ (told-own e H K mine is (is_of_page (replied duration H) top e.event) refl
+      ∙ ap (λ o. told_if (unwrap_or (option_map (λ p. p == top) o) false) (suc (length (replied duration K))) (step_answer duration (replied duration K) e.time e.event)) (event-page-alike top is.agrees e.event mine)) i
+
+  told-alike : (H : History) → IsTrue (is_regular duration H) → page_answers (replied duration H) top ≡ page_answers (replied duration (muted duration top H)) top
+  unfolding muted muted_event replied
+  told-alike [] regular = refl
+  told-alike (e ∷ H) regular =
+      told-step e H (muted duration top H) (isolated H (laws.steps.regular_step duration e H regular).0) (told-alike H (laws.steps.regular_step duration e H regular).0)
+      (is_foreign (replied duration H) top e.event) refl
+
 -- ---- changes
 
 change-at-alike : {T U : RepliedHistory} → Alike T U → (now : ℕ) → changes_at T now ≡ changes_at U now
@@ -183,15 +240,22 @@ module _ (laws : HistoryLaws) where
       → answer_of duration (replied duration H) now e ≡ answer_of duration (replied_muted duration top H) now e
   unmuted-answer duration top now H e is mine = answer-own laws duration top now (isolated laws duration top H is).agrees e mine.own mine.asked
 
-  pub page-cause : (duration top now : ℕ) (H : History) (e : Event) → IsTrue (is_regular duration H) → IsOfPage (replied duration H) top e
+  pub unmuted-told : (duration top now : ℕ) (H : History) (e : Event) → IsTrue (is_regular duration H) → IsUnmuted (replied duration H) top e
+      → step_answer duration (replied duration H) now e ≡ step_answer duration (replied_muted duration top H) now e
+  unmuted-told duration top now H e is mine = step-answer-own laws duration top now (isolated laws duration top H is).agrees e mine.own mine.asked
+
+  pub told : (duration top : ℕ) (H : History) → IsTrue (is_regular duration H) → page_answers (replied duration H) top ≡ page_answers (replied_muted duration top H) top
+  told duration top H is = told-alike laws duration top H is
+
+  pub page-cause : (duration top now : ℕ) (H : History) (e : Event) → IsTrue (is_regular duration H) → IsTrue (is_of_page (replied duration H) top e)
       → cause_of (replied duration H) now e ≡ cause_of (replied_muted duration top H) now e
   page-cause duration top now H e is of = unmuted-cause duration top now H e is (page-own (replied duration H) top e of)
 
-  pub page-answer : (duration top now : ℕ) (H : History) (e : Event) → IsTrue (is_regular duration H) → IsOfPage (replied duration H) top e
+  pub page-answer : (duration top now : ℕ) (H : History) (e : Event) → IsTrue (is_regular duration H) → IsTrue (is_of_page (replied duration H) top e)
       → answer_of duration (replied duration H) now e ≡ answer_of duration (replied_muted duration top H) now e
   page-answer duration top now H e is of = unmuted-answer duration top now H e is (record { own = page-own (replied duration H) top e of; asked = page-asks (replied duration H) top e of })
 
-  pub reply : (duration top now : ℕ) (H : History) (e : Event) → IsTrue (is_regular duration H) → IsOfPage (replied duration H) top e
+  pub reply : (duration top now : ℕ) (H : History) (e : Event) → IsTrue (is_regular duration H) → IsTrue (is_of_page (replied duration H) top e)
       → reply_in duration (replied duration H) now e ≡ reply_in duration (replied_muted duration top H) now e
   unfolding reply_in
   reply duration top now H e is of = λ i. answer_or_refusal (page-cause duration top now H e is of i) (page-answer duration top now H e is of i)

@@ -9,8 +9,9 @@ use Rattle.pe_events.specs.declared.event.Event.TheVariants as event
 use Rattle.pe_rules.specs.History.{Step, RepliedHistory, some_if, newest_answer, all_answers}
 use Rattle.pe_rules.specs.Settings.{Setting, setting_named, dismissed_pair, setting_by, has_entry}
 use Rattle.pe_rules.specs.Statuses.{Status, status_by, drops, is_live_status, live_statuses}
+use Rattle.pe_laws.specs.StatusesLaws.{status_at}
 use Rattle.pe_rules.specs.Causes.{is_same_number, live_pages, live_frames, page_statuses, state_found, prompt_to_join, is_set_since, entries, exceeds_store}
-use Rattle.pe_isolation.proofs.Alike.{Alike, length-alike, newest-alike, all-alike}
+use Rattle.pe_isolation.proofs.Alike.{Alike, length-alike, newest-alike, all-alike, at-alike}
 use Rattle.pe_isolation.proofs.Quiet.{no-query, no-drop, no-setting, no-dismissal}
 use Rattle.pe_isolation.proofs.Made.{frames-made-alike, parent-frame-alike, page-alike, page-of-frame-alike}
 use Rattle.pe_isolation.proofs.Shown.{current-alike, document-in-alike, live-alike}
@@ -22,6 +23,10 @@ use Rattle.pe_isolation.proofs.Prompted.{pending-of-alike}
 status-by-alike : {T U : RepliedHistory} → Alike T U → (e : Event) (k : ℕ) → status_by e T k ≡ status_by e U k
 status-by-alike r (event.Query frame feature) k = λ i. option_and_then (λ d. option_map (λ f. record { number = k; document = d; feature = f }) (feature_named feature)) (document-in-alike r frame i)
 status-by-alike r e k = refl
+
+pub status-at-alike : {T U : RepliedHistory} → Alike T U → (k : ℕ) → status_at T k ≡ status_at U k
+unfolding status_at
+status-at-alike r k = at-alike (λ s B. status_by s.event B k) (λ s B C q. status-by-alike q s.event k) (λ s B h. no-query s.event B k h.event) k r
 
 live-status-alike : {T U : RepliedHistory} → Alike T U → (x : Status) → is_live_status T x ≡ is_live_status U x
 unfolding is_live_status

@@ -1,9 +1,9 @@
 -- Which events are those of a page.
 -- It is this project's own: an event is one of the page in which it acts, or of which it asks.
-use Rattle.std.specs.Prelude.{◌≡◌, ℕ, Bool, true, false, Option, Some, None, option_map}
+use Rattle.std.specs.Prelude.{◌≡◌, ℕ, Bool, false, ◌==◌, List, ◌∷◌, length, Option, None, unwrap_or, option_map, option_to_list}
 use Rattle.pe_events.specs.declared.event.Event.{Event}
 use Rattle.pe_events.specs.declared.event.Event.TheVariants as event
-use Rattle.pe_rules.specs.History.{RepliedHistory}
+use Rattle.pe_rules.specs.History.{StepAnswer, RepliedHistory, some_if, all_answers}
 use Rattle.pe_rules.specs.Embedders.{page, page_of_frame}
 use Rattle.pe_rules.specs.Settings.{prompt_page}
 use Rattle.pe_rules.specs.Delegation.{message}
@@ -33,8 +33,12 @@ page_of_event T (event.Deliver m) = option_map (λ x. x.page) (message T m)
 page_of_event T event.Tick = None
 
 -- the event is one of the page
-abbrev pub IsOfPage : RepliedHistory → ℕ → Event → Type 0
-IsOfPage T top e = page_of_event T e ≡ Some top
+abbrev pub is_of_page : RepliedHistory → ℕ → Event → Bool
+is_of_page T top e = unwrap_or (option_map (λ p. p == top) (page_of_event T e)) false
+
+-- what was told of the events of a page, oldest first, each under its position
+unfoldable pub page_answers : RepliedHistory → ℕ → List (ℕ × StepAnswer)
+page_answers T top = all_answers (λ s B. option_to_list (some_if (is_of_page B top s.event) (length (s ∷ B), s.item))) T
 
 -- the event asks for the user activation of another page
 unfoldable pub asks_elsewhere : RepliedHistory → ℕ → Event → Bool
