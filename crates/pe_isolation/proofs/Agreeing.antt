@@ -1,32 +1,28 @@
 -- Histories that agree for a page: they are alike, and its user activation, its messages and what its documents hold by them are the same.
 -- That goes on by a step that is one in both, and by steps beside the page.
-use Rattle.std.proofs.Common.{◌≡◌, ℕ, suc, ◌<◌, ◌≤◌, Bool, true, false, not, ◌&&◌, ◌||◌, ◌==◌, nat_le, cond, IsTrue, List, [], ◌∷◌, ◌++◌, length, filter, Option, Some, None, is_some, unwrap_or, option_map, option_and_then, option_to_list, refl, sym, ◌∙◌, ap, subst, arith}
-use Rattle.std.specs.Option.{option_or}
+use Rattle.std.proofs.Common.{◌≡◌, ℕ, suc, ◌<◌, ◌≤◌, Bool, true, false, not, ◌&&◌, ◌||◌, ◌==◌, nat_le, cond, IsTrue, ◌∷◌, length, Option, Some, None, is_some, unwrap_or, option_map, option_and_then, refl, sym, ◌∙◌, ap, subst, arith}
 use Rattle.std.proofs.lemmas.Bool.Decides.{nat_tests}
 use Rattle.pe_base.specs.declared.input.Stamp.{Stamp}
 use Rattle.pe_base.specs.declared.input.Stamp.TheVariants as stamp
 use Rattle.pe_features.specs.Capabilities.{capability_named}
 use Rattle.pe_features.specs.declared.capability.Capability.{Capability}
-use Rattle.pe_events.specs.Timed.{Timed}
 use Rattle.pe_events.specs.declared.event.Event.{Event}
 use Rattle.pe_events.specs.declared.event.Event.TheVariants as event
-use Rattle.pe_rules.specs.History.{StepAnswer, Step, RepliedHistory, History, some_if, newest_answer}
-use Rattle.pe_rules.specs.Numbering.{makes_message, is_message, numbers_made}
+use Rattle.pe_rules.specs.History.{StepAnswer, Step, RepliedHistory, History, some_if}
+use Rattle.pe_rules.specs.Numbering.{makes_message, is_message}
 use Rattle.pe_rules.specs.Making.{frame_of}
-use Rattle.pe_rules.specs.Embedders.{page, page_of_frame}
-use Rattle.pe_rules.specs.Current.{ends, frames_above, is_current, document_in}
+use Rattle.pe_rules.specs.Embedders.{page}
+use Rattle.pe_rules.specs.Current.{ends, frames_above, is_current}
 use Rattle.pe_rules.specs.Settings.{word_origin}
-use Rattle.pe_rules.specs.Activation.{activates, is_by_transient, is_consuming_call, is_frame_of_page, consumes_by, consumes, stamp_of}
+use Rattle.pe_rules.specs.Activation.{is_by_transient, is_consuming_call, is_frame_of_page, consumes_by, consumes, stamp_of}
 use Rattle.pe_rules.specs.HistoryActivation.{is_allowance, consumes_history_by, consumes_history, second_stamp_of}
-use Rattle.pe_rules.specs.Delegation.{Message, message_by, message, is_delivery_of, is_message_settled, is_delivered, is_same_capability, is_message_for, hands_over, spends, is_waiting_in, waiting_messages}
+use Rattle.pe_rules.specs.Delegation.{Message, message_by, message, is_delivery_of, is_message_settled, is_delivered, is_same_capability, hands_over, spends, waiting_messages}
 use Rattle.pe_rules.specs.Replies.{replied, is_regular}
 use Rattle.pe_laws.specs.HistoryLaws.{HistoryLaws}
 use Rattle.pe_laws.specs.ActivationLaws.{consumed_stamp, stamp_after}
 use Rattle.pe_laws.specs.HistoryActivationLaws.{second_stamp_after}
 use Rattle.pe_laws.specs.DelegationLaws.{delegated_at}
-use Rattle.pe_laws.specs.EffectsLaws.{effects_of}
-use Rattle.pe_laws.specs.PromptsLaws.{step_of}
-use Rattle.pe_isolation.proofs.Alike.{IsQuiet, Alike, start, same, quiet, length-alike}
+use Rattle.pe_isolation.proofs.Alike.{Alike, length-alike}
 use Rattle.pe_isolation.proofs.Quiet.{and-false}
 use Rattle.pe_isolation.proofs.Made.{page-alike, page-of-frame-alike, frame-of-alike}
 use Rattle.pe_isolation.proofs.Shown.{current-alike, document-in-alike}
@@ -298,7 +294,7 @@ module _ (laws : HistoryLaws) (top : ℕ) where
       by_place true is =
           let le : d ≤ length T = early d (length T) is in
           let older : delegated_at T d capability ≡ delegated_at U d capability =
-                  a.delegated d capability (both (is_current T d) (not (ends (frames_above T d) s.event)) (sym (laws.current.is_current_older s T d le) ∙ current)).0 (sym (laws.embedders.page_older s T d le) ∙ h) in
+          a.delegated d capability (both (is_current T d) (not (ends (frames_above T d) s.event)) (sym (laws.current.is_current_older s T d le) ∙ current)).0 (sym (laws.embedders.page_older s T d le) ∙ h) in
           laws.delegation.delegated_step s T d capability le
           ∙ (λ i. cond (hands-alike T U s.event s.item d capability one i) (Some s.time) (cond (spends s.event s.item (frame-of-alike a.alike d i) capability) None (older i)))
           ∙ sym (laws.delegation.delegated_step s U d capability (subst (λ n. d ≤ n) (length-alike a.alike) le))

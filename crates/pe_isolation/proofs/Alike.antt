@@ -1,5 +1,5 @@
 -- Histories that are alike: step by step the same, but for steps that make nothing that every page sees.
-use Rattle.std.proofs.Common.{◌≡◌, ℕ, suc, Bool, true, false, not, ◌&&◌, ◌==◌, cond, List, [], ◌∷◌, ◌++◌, length, Option, Some, None, option_to_list, option_and_then, refl, sym, ◌∙◌, ap}
+use Rattle.std.proofs.Common.{◌≡◌, ℕ, suc, Bool, true, false, ◌==◌, List, [], ◌∷◌, ◌++◌, length, Option, None, option_to_list, option_and_then, refl, sym, ◌∙◌, ap}
 use Rattle.std.specs.Option.{option_or}
 use Rattle.pe_events.specs.declared.event.Event.{Event}
 use Rattle.pe_events.specs.declared.event.Event.TheVariants as event

@@ -1,32 +1,26 @@
 -- Where histories agree for a page, each event that is not muted is answered the same, but for a question for the user activation of another page.
-use Rattle.std.proofs.Common.{◌≡◌, ℕ, suc, ◌+◌, Bool, true, false, not, ◌&&◌, ◌||◌, ◌==◌, nat_lt, cond, IsTrue, List, [], ◌∷◌, length, map, Option, Some, None, is_none, unwrap_or, option_map, option_and_then, refl, sym, ◌∙◌, ap}
+use Rattle.std.proofs.Common.{◌≡◌, ℕ, ◌+◌, Bool, true, false, not, ◌&&◌, ◌==◌, nat_lt, cond, List, length, map, Option, Some, None, is_none, unwrap_or, option_map, option_and_then, refl, sym, ◌∙◌, ap}
 use Rattle.std.specs.Option.{option_or}
 use Rattle.pe_base.specs.Activation.{triggers, is_sticky, is_transient, is_history_active}
-use Rattle.pe_base.specs.declared.state.State.{State}
 use Rattle.pe_features.specs.declared.call.Call.{Call}
 use Rattle.pe_features.specs.declared.call.Gate.{Gate}
 use Rattle.pe_features.specs.declared.capability.Capability.{Capability}
 use Rattle.pe_features.specs.Calls.{call_named, gate_of}
 use Rattle.pe_features.specs.Capabilities.{capability_named, feature_of}
 use Rattle.pe_features.specs.Features.{all_features, feature_named}
-use Rattle.pe_origin.specs.declared.origin.Origin.{Origin}
 use Rattle.pe_origin.specs.Origins.{is_same_origin}
-use Rattle.pe_events.specs.declared.answer.Answer.{Answer}
 use Rattle.pe_events.specs.declared.answer.Answer.TheVariants as answer
 use Rattle.pe_events.specs.declared.event.Event.{Event}
 use Rattle.pe_events.specs.declared.event.Event.TheVariants as event
-use Rattle.pe_events.specs.declared.reason.Reason.{Reason}
 use Rattle.pe_events.specs.declared.reason.Reason.TheVariants as reason
-use Rattle.pe_events.specs.declared.reason.Verdict.{Verdict}
-use Rattle.pe_rules.specs.History.{StepAnswer, Replied, Judged, RepliedHistory, some_if}
+use Rattle.pe_rules.specs.History.{Replied, Judged, RepliedHistory, some_if}
 use Rattle.pe_rules.specs.Embedders.{page, page_of_frame}
 use Rattle.pe_rules.specs.Current.{is_current, document_in}
-use Rattle.pe_rules.specs.Origins.{origin_of}
 use Rattle.pe_rules.specs.Activation.{has_sticky, has_transient}
 use Rattle.pe_rules.specs.HistoryActivation.{has_history_activation}
 use Rattle.pe_rules.specs.Delegation.{Message, message, has_delegated}
 use Rattle.pe_rules.specs.Verdicts.{reason_of_state, permission_reason, is_met_by_delegated, activation_reason, reason_denied, met_by, verdict_by, verdict_of}
-use Rattle.pe_rules.specs.Replies.{answer_of_denial, answer_of_verdict, answer_of_history_action, answer_of_request, state_replied, post_reason, answer_of_post, answer_of_delivery, answer_or_done, with_event, new_origin, answer_of, verdict_replied, step_answer}
+use Rattle.pe_rules.specs.Replies.{answer_of_denial, answer_of_verdict, answer_of_history_action, answer_of_request, state_replied, post_reason, answer_of_post, answer_of_delivery, answer_or_done, new_origin, answer_of, verdict_replied, step_answer}
 use Rattle.pe_rules.specs.Muting.{is_other_page, is_foreign}
 use Rattle.pe_laws.specs.HistoryLaws.{HistoryLaws}
 use Rattle.pe_isolation.specs.PageEvents.{asks_elsewhere}

@@ -1,27 +1,26 @@
 -- What a step beside a page does not do: it changes nothing of the page's user activation, of its messages and of what its documents hold by them.
-use Rattle.std.proofs.Common.{◌≡◌, ℕ, suc, Bool, true, false, not, ◌&&◌, ◌||◌, ◌==◌, cond, IsTrue, List, [], ◌∷◌, length, Option, Some, None, is_some, unwrap_or, option_map, option_and_then, refl, sym, ◌∙◌, ap, subst}
+use Rattle.std.proofs.Common.{◌≡◌, ℕ, Bool, true, false, not, ◌&&◌, ◌==◌, IsTrue, List, Option, Some, None, unwrap_or, option_map, option_and_then, refl, sym, ◌∙◌, ap, subst}
 use Rattle.pe_base.specs.Activation.{triggers}
 use Rattle.pe_features.specs.Capabilities.{capability_named}
 use Rattle.pe_features.specs.declared.capability.Capability.{Capability}
-use Rattle.pe_events.specs.Timed.{Timed}
 use Rattle.pe_events.specs.declared.event.Event.{Event}
 use Rattle.pe_events.specs.declared.event.Event.TheVariants as event
 use Rattle.pe_base.specs.declared.input.InputKind.{InputKind}
-use Rattle.pe_rules.specs.History.{StepAnswer, Step, RepliedHistory, History, some_if}
+use Rattle.pe_rules.specs.History.{StepAnswer, RepliedHistory, History, some_if}
 use Rattle.pe_rules.specs.Numbering.{makes_message, makes_prompt}
 use Rattle.pe_rules.specs.Making.{frame_of}
 use Rattle.pe_rules.specs.Embedders.{page, page_of_frame}
 use Rattle.pe_rules.specs.Current.{is_current, document_in}
 use Rattle.pe_rules.specs.Settings.{word_origin}
-use Rattle.pe_rules.specs.Activation.{reaches, activates, is_by_transient, is_consuming_call, is_frame_of_page, consumes_by, consumes}
-use Rattle.pe_rules.specs.HistoryActivation.{is_allowance, consumes_history_by, consumes_history}
-use Rattle.pe_rules.specs.Delegation.{Message, message_by, message, is_same_capability, is_delivery_of, is_delivered, is_message_for, hands_over, is_by_delegated, is_call_of, spends}
+use Rattle.pe_rules.specs.Activation.{reaches, activates, is_by_transient, is_consuming_call, consumes_by}
+use Rattle.pe_rules.specs.HistoryActivation.{is_allowance, consumes_history_by}
+use Rattle.pe_rules.specs.Delegation.{Message, message_by, message, is_same_capability, is_delivery_of, is_delivered, hands_over, is_by_delegated, is_call_of, spends}
 use Rattle.pe_rules.specs.Replies.{replied, is_regular}
 use Rattle.pe_rules.specs.Muting.{is_other_page, is_foreign}
 use Rattle.pe_laws.specs.HistoryLaws.{HistoryLaws}
 use Rattle.pe_isolation.proofs.Alike.{is_quiet}
 use Rattle.pe_isolation.proofs.Quiet.{and-false}
-use Rattle.pe_isolation.proofs.Pages.{same-numbers, both, not-this, other-page, shown-page, reaches-page}
+use Rattle.pe_isolation.proofs.Pages.{same-numbers, not-this, other-page, shown-page, reaches-page}
 use Rattle.pe_isolation.proofs.Posted.{message-page}
 
 -- the message, where it is one of the page

@@ -1,13 +1,12 @@
 -- How histories that agree for a page go on.
-use Rattle.std.proofs.Common.{◌≡◌, ℕ, suc, ◌<◌, ◌≤◌, Bool, true, false, not, ◌&&◌, ◌||◌, ◌==◌, nat_le, cond, IsTrue, List, [], ◌∷◌, length, Option, Some, None, refl, sym, ◌∙◌, ap, subst, arith}
+use Rattle.std.proofs.Common.{◌≡◌, ℕ, suc, ◌<◌, ◌≤◌, Bool, true, false, not, ◌==◌, nat_le, cond, IsTrue, ◌∷◌, length, None, refl, sym, ◌∙◌, ap, subst}
 use Rattle.pe_events.specs.Timed.{Timed}
-use Rattle.pe_events.specs.declared.event.Event.{Event}
-use Rattle.pe_rules.specs.History.{StepAnswer, Step, RepliedHistory, History}
+use Rattle.pe_rules.specs.History.{Step, RepliedHistory, History}
 use Rattle.pe_rules.specs.Embedders.{page}
 use Rattle.pe_rules.specs.Current.{ends, frames_above, is_current}
 use Rattle.pe_rules.specs.Activation.{stamp_of}
 use Rattle.pe_rules.specs.HistoryActivation.{second_stamp_of}
-use Rattle.pe_rules.specs.Delegation.{message, is_delivery_of, waiting_messages}
+use Rattle.pe_rules.specs.Delegation.{message, is_delivery_of}
 use Rattle.pe_rules.specs.Replies.{step_answer, replied, is_regular}
 use Rattle.pe_laws.specs.HistoryLaws.{HistoryLaws}
 use Rattle.pe_laws.specs.ActivationLaws.{stamp_after}
@@ -15,7 +14,7 @@ use Rattle.pe_laws.specs.HistoryActivationLaws.{second_stamp_after}
 use Rattle.pe_laws.specs.DelegationLaws.{delegated_at}
 use Rattle.pe_laws.specs.PromptsLaws.{step_of}
 use Rattle.pe_features.specs.declared.capability.Capability.{Capability}
-use Rattle.pe_isolation.proofs.Alike.{IsQuiet, Alike, start, same, quiet, length-alike}
+use Rattle.pe_isolation.proofs.Alike.{Alike, same, quiet, length-alike}
 use Rattle.pe_isolation.proofs.Shown.{current-alike}
 use Rattle.pe_isolation.proofs.Made.{page-alike}
 use Rattle.pe_isolation.proofs.Pages.{both}
@@ -89,7 +88,7 @@ module _ (laws : HistoryLaws) (top : ℕ) where
           let le : d ≤ length (replied duration H) = early d (length (replied duration H)) is in
           let here : page (replied duration H) d ≡ top = sym (laws.embedders.page_older (step_of duration H e) (replied duration H) d le) ∙ h in
           let was : is_current (replied duration H) d ≡ true =
-                  (both (is_current (replied duration H) d) (not (ends (frames_above (replied duration H) d) e.event)) (sym (laws.current.is_current_older (step_of duration H e) (replied duration H) d le) ∙ current)).0 in
+          (both (is_current (replied duration H) d) (not (ends (frames_above (replied duration H) d) e.event)) (sym (laws.current.is_current_older (step_of duration H e) (replied duration H) d le) ∙ current)).0 in
           delegated-left laws top (step_of duration H e) (replied duration H) left d capability was here
           ∙ a.delegated d capability was here
           ∙ sym (delegated-left laws top (step_of duration K f) (replied duration K) right d capability (sym (current-alike a.alike d) ∙ was) (sym (page-alike a.alike d) ∙ here))

@@ -1,23 +1,21 @@
 -- A regular history agrees for each page with its muted one, which is regular too; and so pages are isolated.
-use Rattle.std.proofs.Common.{◌≡◌, ℕ, suc, ◌+◌, ◌-◌, Bool, true, false, not, ◌&&◌, ◌||◌, ◌==◌, cond, IsTrue, List, [], ◌∷◌, ◌++◌, length, filter, flat_map, Option, Some, None, is_some, is_none, unwrap_or, option_map, option_and_then, option_to_list, refl, sym, ◌∙◌, ap, subst}
+use Rattle.std.proofs.Common.{◌≡◌, ℕ, suc, ◌-◌, Bool, true, false, not, ◌==◌, cond, IsTrue, List, [], ◌∷◌, ◌++◌, length, filter, flat_map, None, is_none, unwrap_or, option_map, option_to_list, refl, sym, ◌∙◌, ap, subst}
 use Rattle.std.specs.List.{list_any}
 use Rattle.pe_events.specs.Timed.{Timed}
 use Rattle.pe_events.specs.declared.event.Event.{Event}
 use Rattle.pe_events.specs.declared.event.Event.TheVariants as event
 use Rattle.pe_rules.specs.History.{StepAnswer, RepliedHistory, History, some_if, all_answers}
 use Rattle.pe_rules.specs.Numbering.{makes_prompt}
-use Rattle.pe_rules.specs.Embedders.{page_of_frame}
 use Rattle.pe_rules.specs.Delegation.{message, is_delivery_of}
 use Rattle.pe_rules.specs.Causes.{cause_of}
 use Rattle.pe_rules.specs.Replies.{answer_or_refusal, answer_of, step_answer, replied, reply_in, accepts_in, accepts, is_regular}
 use Rattle.pe_rules.specs.Changes.{change_of, numbers_above, change_at, changes_at, changes_before, change_between, changes_after}
-use Rattle.pe_rules.specs.Muting.{is_other_page, is_foreign, muted_event, muted}
+use Rattle.pe_rules.specs.Muting.{is_foreign, muted_event, muted}
 use Rattle.pe_laws.specs.HistoryLaws.{HistoryLaws}
 use Rattle.pe_laws.specs.Effects.{effects}
-use Rattle.pe_laws.specs.PromptsLaws.{step_of}
 use Rattle.pe_isolation.specs.PageEvents.{page_of_event, is_of_page, page_answers, asks_elsewhere, IsUnmuted}
 use Rattle.pe_isolation.specs.IsolationLaws.{replied_muted}
-use Rattle.pe_isolation.proofs.Alike.{is_quiet, IsQuiet, Alike, start, same, quiet, length-alike, clock-alike}
+use Rattle.pe_isolation.proofs.Alike.{is_quiet, Alike, start, length-alike, clock-alike}
 use Rattle.pe_isolation.proofs.Made.{page-alike, page-of-frame-alike}
 use Rattle.pe_isolation.proofs.Stored.{prompt-page-alike, state-alike}
 use Rattle.pe_isolation.proofs.Listed.{status-at-alike, statuses-alike}
@@ -152,8 +150,8 @@ module _ (laws : HistoryLaws) (duration top : ℕ) where
       by_ask (asks frame asked) =
           let silent : (G : History) → makes_prompt (step_answer duration (replied duration G) e.time e.event) ≡ false = λ G. quiet-told G e (ap is_quiet asked) in
           let of : (G : History) → IsBeside top e.event (step_answer duration (replied duration G) e.time e.event) (replied duration G) =
-                  λ G. subst (λ (x : Event). IsBeside top x (step_answer duration (replied duration G) e.time e.event) (replied duration G)) (sym asked)
-                      (ask-beside top frame (step_answer duration (replied duration G) e.time e.event) (replied duration G) (silent G)) in
+          λ G. subst (λ (x : Event). IsBeside top x (step_answer duration (replied duration G) e.time e.event) (replied duration G)) (sym asked)
+          (ask-beside top frame (step_answer duration (replied duration G) e.time e.event) (replied duration G) (silent G)) in
           beside laws top duration H K e e regular is.regular is.agrees refl (of H) (of K)
       by_ask (other none) =
           kept laws top duration H K e regular is.regular is.agrees

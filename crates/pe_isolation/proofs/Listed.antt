@@ -1,12 +1,11 @@
 -- In histories that are alike the same statuses are live, and the limits are as far.
-use Rattle.std.proofs.Common.{◌≡◌, ℕ, suc, Bool, true, false, not, ◌&&◌, ◌==◌, nat_lt, nat_le, List, [], ◌∷◌, length, map, filter, Option, Some, None, is_some, is_none, unwrap_or, option_map, option_and_then, option_to_list, refl, sym, ◌∙◌, ap}
-use Rattle.pe_features.specs.declared.feature.Feature.{Feature}
+use Rattle.std.proofs.Common.{◌≡◌, ℕ, suc, Bool, false, not, ◌&&◌, ◌==◌, nat_lt, nat_le, List, length, map, filter, Some, None, is_some, is_none, unwrap_or, option_map, option_and_then, option_to_list, refl, ◌∙◌, ap}
 use Rattle.pe_features.specs.Features.{feature_named}
 use Rattle.pe_store.specs.Pairs.{Pair, is_same_pair}
 use Rattle.pe_base.specs.declared.limits.TheConstants.{STORE_LIMIT}
 use Rattle.pe_events.specs.declared.event.Event.{Event}
 use Rattle.pe_events.specs.declared.event.Event.TheVariants as event
-use Rattle.pe_rules.specs.History.{Step, RepliedHistory, some_if, newest_answer, all_answers}
+use Rattle.pe_rules.specs.History.{RepliedHistory, some_if, all_answers}
 use Rattle.pe_rules.specs.Settings.{Setting, setting_named, dismissed_pair, setting_by, has_entry}
 use Rattle.pe_rules.specs.Statuses.{Status, status_by, drops, is_live_status, live_statuses}
 use Rattle.pe_laws.specs.StatusesLaws.{status_at}

@@ -1,13 +1,13 @@
 -- In histories that are alike the same frames and documents were made, of the same attributes and with the same embedders.
-use Rattle.std.proofs.Common.{◌≡◌, ℕ, suc, ◌+◌, Bool, true, false, ◌&&◌, ◌==◌, cond, List, [], ◌∷◌, ◌++◌, length, Option, Some, None, is_some, unwrap_or, option_map, option_and_then, option_to_list, refl, sym, ◌∙◌, ap}
+use Rattle.std.proofs.Common.{◌≡◌, ℕ, suc, Bool, false, ◌&&◌, ◌==◌, cond, [], ◌∷◌, ◌++◌, length, Option, Some, None, is_some, unwrap_or, option_map, option_and_then, option_to_list, refl, ◌∙◌, ap}
 use Rattle.pe_events.specs.declared.event.AttrName.{AttrName}
 use Rattle.pe_events.specs.declared.event.AttrName.TheVariants.{Src, Srcdoc, Allow, Sandbox, Fullscreen}
 use Rattle.pe_events.specs.declared.event.Event.{Event}
 use Rattle.pe_events.specs.declared.event.Event.TheVariants as event
-use Rattle.pe_rules.specs.History.{Step, RepliedHistory, some_if, newest_answer, all_answers, answers_newest_first}
+use Rattle.pe_rules.specs.History.{Step, RepliedHistory, some_if, newest_answer, answers_newest_first}
 use Rattle.pe_rules.specs.Numbering.{makes_frame, document_frame, makes_status, makes_prompt, is_made, is_frame, is_status, is_prompt, numbers_made, frames_made, documents_made, last_document, parent_by, parent_frame}
 use Rattle.pe_rules.specs.Attributes.{attribute_by, attribute, attributes_of}
-use Rattle.pe_rules.specs.Making.{Making, embedded_url, making_by, making, fold_embedders, frame_of}
+use Rattle.pe_rules.specs.Making.{Making, making_by, making, fold_embedders, frame_of}
 use Rattle.pe_rules.specs.Embedders.{chain, first_or, top_document, page, page_of_frame, depth}
 use Rattle.pe_isolation.proofs.Alike.{IsQuiet, Alike, start, same, quiet, length-alike, newest-alike, all-alike, listed-alike}
 use Rattle.pe_isolation.proofs.Quiet.{no-frame, no-document, no-parent, no-attribute, no-making, no-status, and-false, neither}
@@ -112,8 +112,8 @@ fold-alike other rule one start d = refl
 fold-alike {A} other rule one (same s {T} {U} r) d =
     let older : (p : ℕ) → fold_embedders other rule T p ≡ fold_embedders other rule U p = fold-alike other rule one r in
     λ i. cond (d == suc (length-alike r i))
-        (unwrap_or (option_map (λ (m : Making). (one (s ∷ T) (s ∷ U) (same s r) m (option_map (fold_embedders other rule T) m.embedder) ∙ ap (rule (s ∷ U) m) (λ j. option_map (λ p. older p j) m.embedder)) i) (making-by-alike r s.event i)) other)
-        (older d i)
+    (unwrap_or (option_map (λ (m : Making). (one (s ∷ T) (s ∷ U) (same s r) m (option_map (fold_embedders other rule T) m.embedder) ∙ ap (rule (s ∷ U) m) (λ j. option_map (λ p. older p j) m.embedder)) i) (making-by-alike r s.event i)) other)
+    (older d i)
 fold-alike other rule one (quiet s u {T} {U} time p q r) d =
     rw (no-making s.event T p.event, no-making u.event U q.event) (λ i. cond (d == suc (length-alike r i)) other (fold-alike other rule one r d i))
 

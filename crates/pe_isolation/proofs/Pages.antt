@@ -1,29 +1,17 @@
 -- The pages of documents, of what an input reaches, and of messages.
-use Rattle.std.proofs.Common.{◌≡◌, ℕ, suc, ◌<◌, ◌≤◌, Bool, true, false, not, ◌&&◌, ◌||◌, ◌==◌, nat_le, cond, IsTrue, List, [], ◌∷◌, ◌++◌, length, Option, Some, None, is_some, unwrap_or, option_map, option_and_then, refl, sym, ◌∙◌, ap, subst, arith}
-use Rattle.std.specs.Option.{option_or}
+use Rattle.std.proofs.Common.{◌≡◌, ℕ, Bool, true, false, not, ◌&&◌, ◌||◌, ◌==◌, List, [], ◌∷◌, ◌++◌, Option, Some, None, is_some, unwrap_or, option_map, option_and_then, refl, sym, ◌∙◌, ap, subst, arith}
 use Rattle.std.proofs.lemmas.Bool.Decides.{nat_tests}
-use Rattle.pe_features.specs.Capabilities.{capability_named}
-use Rattle.pe_features.specs.declared.capability.Capability.{Capability}
-use Rattle.pe_origin.specs.declared.origin.Origin.{Origin}
-use Rattle.pe_events.specs.Timed.{Timed}
-use Rattle.pe_events.specs.declared.event.Event.{Event}
-use Rattle.pe_events.specs.declared.event.Event.TheVariants as event
-use Rattle.pe_rules.specs.History.{Step, RepliedHistory, History, some_if, newest_answer, step_at}
+use Rattle.pe_rules.specs.History.{RepliedHistory, some_if}
 use Rattle.pe_rules.specs.Numbering.{last_document}
 use Rattle.pe_rules.specs.Making.{Making, making, frame_of}
 use Rattle.pe_rules.specs.Embedders.{chain, first_or, top_document, page, page_of_frame}
 use Rattle.pe_rules.specs.Current.{is_current, document_in}
 use Rattle.pe_origin.specs.Origins.{is_same_origin}
 use Rattle.pe_rules.specs.Origins.{origin_of}
-use Rattle.pe_rules.specs.Settings.{word_origin}
 use Rattle.pe_rules.specs.Activation.{is_one_of, reaches}
-use Rattle.pe_rules.specs.Delegation.{Message, message_by, message}
-use Rattle.pe_rules.specs.Causes.{is_same_number, names_other_page}
-use Rattle.pe_rules.specs.Replies.{replied, is_regular, accepts, accepts_in}
 use Rattle.pe_rules.specs.Muting.{is_other_page}
 use Rattle.pe_laws.specs.HistoryLaws.{HistoryLaws}
 use Rattle.pe_laws.specs.EmbeddersLaws.{IsAbove}
-use Rattle.pe_laws.specs.PromptsLaws.{step_of}
 
 -- ---- tests
 

@@ -1,20 +1,18 @@
 -- In histories that are alike the same documents have the same origins and the same policies, and the same inputs activate the same ones.
-use Rattle.std.proofs.Common.{◌≡◌, ℕ, Bool, true, false, not, ◌&&◌, ◌||◌, cond, List, [], ◌∷◌, length, map, filter, Option, Some, None, is_none, unwrap_or, option_map, option_and_then, refl, sym, ◌∙◌, ap}
-use Rattle.pe_base.specs.declared.denial.Denial.{Denial}
+use Rattle.std.proofs.Common.{◌≡◌, ℕ, false, ◌&&◌, ◌||◌, length, map, filter, is_none, unwrap_or, option_map, option_and_then, refl}
 use Rattle.pe_base.specs.Activation.{triggers}
 use Rattle.pe_features.specs.declared.feature.Feature.{Feature}
-use Rattle.pe_origin.specs.declared.origin.Origin.{Origin}
 use Rattle.pe_origin.specs.declared.origin.Origin.TheVariants as origin
 use Rattle.pe_origin.specs.Origins.{is_same_origin}
 use Rattle.pe_origin.specs.Trust.{is_trustworthy}
-use Rattle.pe_allowlist.specs.Lists.{PolicyDirective, no_lists, is_policy_controlled}
+use Rattle.pe_allowlist.specs.Lists.{no_lists, is_policy_controlled}
 use Rattle.pe_allowlist.specs.ContainerPolicy.{container_policy}
 use Rattle.pe_header.specs.DeclaredPolicy.{declared_policy}
 use Rattle.pe_policy.specs.Denials.{denial}
 use Rattle.pe_events.specs.declared.event.Event.{Event}
 use Rattle.pe_events.specs.declared.event.Event.TheVariants as event
 use Rattle.pe_rules.specs.History.{RepliedHistory}
-use Rattle.pe_rules.specs.Making.{Making, fold_embedders}
+use Rattle.pe_rules.specs.Making.{Making}
 use Rattle.pe_rules.specs.Origins.{place_or_none, is_sandboxed, sandbox_flag, origin_rule, origin_of, declared_origin, is_secure}
 use Rattle.pe_rules.specs.Denials.{declared_policy_in, container_in, container_policy_in, chain_document, chain_documents, why_denied, is_allowed}
 use Rattle.pe_rules.specs.Activation.{is_one_of, reaches, activates, activated_count}

@@ -1,7 +1,6 @@
 -- The message of a number step by step, and that a message is one of the page of its target.
-use Rattle.std.proofs.Common.{◌≡◌, ℕ, suc, ◌<◌, ◌≤◌, Bool, true, false, not, ◌&&◌, ◌||◌, ◌==◌, nat_le, cond, IsTrue, List, [], ◌∷◌, length, Option, Some, None, is_some, is_none, unwrap_or, option_map, option_and_then, refl, sym, ◌∙◌, ap, subst, arith}
+use Rattle.std.proofs.Common.{◌≡◌, ℕ, suc, ◌<◌, ◌≤◌, Bool, true, false, not, ◌==◌, cond, IsTrue, List, [], ◌∷◌, length, Option, Some, None, is_none, option_map, option_and_then, refl, sym, ◌∙◌, ap, arith}
 use Rattle.std.specs.Option.{option_or}
-use Rattle.std.proofs.lemmas.Bool.Decides.{nat_tests}
 use Rattle.pe_features.specs.Capabilities.{capability_named}
 use Rattle.pe_features.specs.declared.capability.Capability.{Capability}
 use Rattle.pe_events.specs.Timed.{Timed}
@@ -10,7 +9,7 @@ use Rattle.pe_events.specs.declared.event.Event.{Event}
 use Rattle.pe_events.specs.declared.event.Event.TheVariants as event
 use Rattle.pe_rules.specs.History.{Step, RepliedHistory, History, some_if, newest_answer, step_at}
 use Rattle.pe_rules.specs.Embedders.{page, page_of_frame}
-use Rattle.pe_rules.specs.Current.{is_current, document_in}
+use Rattle.pe_rules.specs.Current.{document_in}
 use Rattle.pe_rules.specs.Settings.{word_origin}
 use Rattle.pe_rules.specs.Delegation.{Message, message_by, message}
 use Rattle.pe_rules.specs.Causes.{is_same_number, names_other_page, cause_of}

@@ -1,12 +1,11 @@
 -- In histories that are alike the same prompts are pending.
-use Rattle.std.proofs.Common.{◌≡◌, ℕ, Bool, true, false, not, ◌&&◌, ◌==◌, List, [], ◌∷◌, length, filter, Option, Some, None, is_some, unwrap_or, option_map, option_and_then, option_to_list, refl, sym, ◌∙◌, ap}
-use Rattle.pe_features.specs.Features.{feature_named}
+use Rattle.std.proofs.Common.{◌≡◌, ℕ, false, not, ◌&&◌, ◌==◌, length, filter, is_some, unwrap_or, option_map, option_and_then, option_to_list, refl, ap}
 use Rattle.pe_store.specs.Pairs.{Pair, is_same_pair}
 use Rattle.pe_events.specs.declared.event.Event.{Event}
 use Rattle.pe_events.specs.declared.event.Event.TheVariants as event
-use Rattle.pe_rules.specs.History.{Step, RepliedHistory, some_if}
-use Rattle.pe_rules.specs.Numbering.{makes_prompt, numbers_made}
-use Rattle.pe_rules.specs.Prompts.{prompt_replied, requesting_document, requesting_document_of, requests, answers, is_settled, waiting, is_pending, is_prompt_of, pending, first_of, shown_prompt, is_prompt_for, pending_prompt_of}
+use Rattle.pe_rules.specs.History.{RepliedHistory, some_if}
+use Rattle.pe_rules.specs.Numbering.{makes_prompt}
+use Rattle.pe_rules.specs.Prompts.{prompt_replied, requesting_document, requesting_document_of, requests, answers, is_settled, waiting, is_pending, pending, first_of, shown_prompt, pending_prompt_of}
 use Rattle.pe_isolation.proofs.Alike.{Alike, newest-alike, all-alike}
 use Rattle.pe_isolation.proofs.Quiet.{no-request, no-answer, then-none}
 use Rattle.pe_isolation.proofs.Made.{numbers-alike}

@@ -1,19 +1,16 @@
 -- What quiet steps do not do.
-use Rattle.std.proofs.Common.{◌≡◌, ℕ, Bool, true, false, ◌&&◌, cond, List, [], Option, Some, None, option_and_then, refl}
-use Rattle.pe_features.specs.declared.feature.Feature.{Feature}
-use Rattle.pe_store.specs.Pairs.{Pair}
+use Rattle.std.proofs.Common.{◌≡◌, ℕ, Bool, true, false, ◌&&◌, cond, List, Option, Some, None, option_and_then, refl}
 use Rattle.pe_events.specs.declared.event.AttrName.{AttrName}
 use Rattle.pe_events.specs.declared.event.Event.{Event}
 use Rattle.pe_events.specs.declared.event.Event.TheVariants as event
-use Rattle.pe_events.specs.declared.event.Outcome.TheVariants as outcome
 use Rattle.pe_rules.specs.History.{RepliedHistory}
 use Rattle.pe_rules.specs.Numbering.{makes_frame, document_frame, makes_status, parent_by}
 use Rattle.pe_rules.specs.Attributes.{attribute_by}
-use Rattle.pe_rules.specs.Making.{Making, making_by}
+use Rattle.pe_rules.specs.Making.{making_by}
 use Rattle.pe_rules.specs.Current.{ends}
-use Rattle.pe_rules.specs.Settings.{Setting, asking, setting_named, dismissed_pair}
+use Rattle.pe_rules.specs.Settings.{asking, setting_named, dismissed_pair}
 use Rattle.pe_rules.specs.Prompts.{requesting_document, answers}
-use Rattle.pe_rules.specs.Statuses.{Status, status_by, drops}
+use Rattle.pe_rules.specs.Statuses.{status_by, drops}
 use Rattle.pe_isolation.proofs.Alike.{is_quiet}
 
 pub no-frame : (e : Event) → is_quiet e ≡ true → makes_frame e ≡ false

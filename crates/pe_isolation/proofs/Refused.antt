@@ -1,5 +1,5 @@
 -- Where histories agree for a page, each event that is not muted has the same cause to be refused; and the tick for one that is muted has none.
-use Rattle.std.proofs.Common.{◌≡◌, ℕ, suc, ◌+◌, Bool, true, false, not, ◌&&◌, ◌||◌, ◌==◌, nat_lt, nat_le, cond, IsTrue, List, [], ◌∷◌, length, Option, Some, None, is_some, is_none, unwrap_or, option_map, option_and_then, refl, sym, ◌∙◌, ap}
+use Rattle.std.proofs.Common.{◌≡◌, ℕ, Bool, true, false, not, ◌&&◌, ◌||◌, ◌==◌, nat_lt, nat_le, List, [], ◌∷◌, length, Option, Some, None, is_none, unwrap_or, option_map, option_and_then, refl, sym, ◌∙◌, ap}
 use Rattle.std.specs.List.{list_any}
 use Rattle.pe_base.specs.declared.limits.TheConstants.{EVENT_LIMIT, PAGE_LIMIT, DEPTH_LIMIT, FRAME_LIMIT, STATUS_LIMIT, PENDING_LIMIT, MESSAGE_LIMIT}
 use Rattle.pe_events.specs.declared.cause.Cause.{Cause}
@@ -10,8 +10,8 @@ use Rattle.pe_rules.specs.History.{RepliedHistory, some_if, clock}
 use Rattle.pe_rules.specs.Numbering.{is_frame, is_message}
 use Rattle.pe_rules.specs.Embedders.{page_of_frame}
 use Rattle.pe_rules.specs.Delegation.{message, is_message_settled, waiting_messages}
-use Rattle.pe_rules.specs.Settings.{setting_named, dismissed_pair, setting_by}
-use Rattle.pe_rules.specs.Causes.{live_frames, page_statuses, frames_named, names_unknown_object, names_unknown, names_settled, names_closed_object, names_closed, is_shown, names_not_shown, has_bad_url, has_bad_feature, has_bad_call, has_bad_capability, is_same_number, names_other_page, count_in_page, is_prompt_state, exceeds_pages, exceeds_depth, exceeds_frames, exceeds_statuses, exceeds_pending, exceeds_store, first_some, cause_of}
+use Rattle.pe_rules.specs.Settings.{setting_named, setting_by}
+use Rattle.pe_rules.specs.Causes.{live_frames, page_statuses, frames_named, names_unknown_object, names_unknown, names_settled, names_closed_object, names_closed, names_not_shown, has_bad_url, has_bad_feature, has_bad_call, has_bad_capability, is_same_number, names_other_page, count_in_page, is_prompt_state, exceeds_pages, exceeds_depth, exceeds_frames, exceeds_statuses, exceeds_pending, exceeds_store, first_some, cause_of}
 use Rattle.pe_rules.specs.Muting.{is_other_page, is_foreign}
 use Rattle.pe_laws.specs.HistoryLaws.{HistoryLaws}
 use Rattle.pe_laws.specs.CausesLaws.{IsFaultless}
@@ -24,7 +24,7 @@ use Rattle.pe_isolation.proofs.Listed.{statuses-alike, live-pages-alike, live-fr
 use Rattle.pe_rules.specs.Prompts.{pending}
 use Rattle.pe_isolation.proofs.Pages.{this-page}
 use Rattle.pe_isolation.proofs.Beside.{is_own}
-use Rattle.pe_isolation.proofs.Agreeing.{Agrees, is_made_in, is_settled_in, own-test-alike}
+use Rattle.pe_isolation.proofs.Agreeing.{Agrees, own-test-alike}
 use Rattle.pe_isolation.proofs.Answered.{own-delivery}
 
 count-in-alike : {T U : RepliedHistory} → Alike T U → (f : ℕ) (things others : ℕ → List ℕ) → ((top : ℕ) → things top ≡ others top) → count_in_page T f things ≡ count_in_page U f others

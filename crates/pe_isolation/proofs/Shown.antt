@@ -1,10 +1,7 @@
 -- In histories that are alike the same documents are current, and the same inputs activate the same documents.
-use Rattle.std.proofs.Common.{◌≡◌, ℕ, suc, Bool, true, false, not, ◌&&◌, ◌||◌, ◌==◌, cond, nat_le, List, [], ◌∷◌, length, map, filter, Option, Some, None, is_some, unwrap_or, option_map, option_and_then, refl, sym, ◌∙◌, ap}
+use Rattle.std.proofs.Common.{◌≡◌, ℕ, suc, Bool, true, false, not, ◌&&◌, cond, nat_le, List, [], ◌∷◌, length, map, is_some, option_and_then, refl, ◌∙◌, ap}
 use Rattle.std.specs.List.{list_all}
-use Rattle.pe_base.specs.Activation.{triggers}
-use Rattle.pe_events.specs.declared.event.Event.{Event}
-use Rattle.pe_events.specs.declared.event.Event.TheVariants as event
-use Rattle.pe_rules.specs.History.{Step, RepliedHistory, some_if, steps_since}
+use Rattle.pe_rules.specs.History.{RepliedHistory, some_if, steps_since}
 use Rattle.pe_rules.specs.Making.{making}
 use Rattle.pe_rules.specs.Current.{ends, frames_above, is_current, document_in, is_live}
 use Rattle.pe_isolation.proofs.Alike.{Alike, start, same, quiet, length-alike}

@@ -1,7 +1,6 @@
 -- In histories that are alike the same is set and stored, and the permission states are the same.
-use Rattle.std.proofs.Common.{◌≡◌, ℕ, Bool, true, false, not, ◌&&◌, ◌||◌, cond, List, [], ◌∷◌, length, Option, Some, None, is_some, unwrap_or, option_map, option_and_then, refl, sym, ◌∙◌, ap}
+use Rattle.std.proofs.Common.{◌≡◌, ℕ, not, ◌&&◌, ◌||◌, cond, Option, Some, None, is_some, unwrap_or, option_map, option_and_then, refl, sym, ◌∙◌, ap}
 use Rattle.std.specs.Option.{option_or}
-use Rattle.pe_base.specs.declared.state.State.{State}
 use Rattle.pe_base.specs.declared.state.State.TheVariants as state
 use Rattle.pe_features.specs.declared.feature.Feature.{Feature}
 use Rattle.pe_features.specs.Features.{feature_named, key_of}
@@ -11,7 +10,7 @@ use Rattle.pe_store.specs.Pairs.{Pair, is_same_pair}
 use Rattle.pe_events.specs.declared.event.Event.{Event}
 use Rattle.pe_events.specs.declared.event.Event.TheVariants as event
 use Rattle.pe_events.specs.declared.event.Outcome.TheVariants as outcome
-use Rattle.pe_rules.specs.History.{Step, RepliedHistory, some_if, step_at}
+use Rattle.pe_rules.specs.History.{Step, RepliedHistory, some_if}
 use Rattle.pe_rules.specs.Embedders.{page}
 use Rattle.pe_rules.specs.Settings.{key_by_kind, key_for, pair_for, asking, prompt_pair, prompt_page, Setting, life_of_answer, stored_by_outcome, setting_named, holds, Standing, stored_by, is_undecided, dismissed_pair, counts, embargo, completes_embargo, after_dismissal, is_pair, after_unnamed, after_step, standing_of, last_setting, embargo_for, setting_by, stored_state, has_entry}
 use Rattle.pe_rules.specs.PermissionState.{permission_state}

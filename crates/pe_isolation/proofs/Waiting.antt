@@ -1,19 +1,19 @@
 -- The waiting messages of a page, by a step that is one in both histories and by steps beside the page.
-use Rattle.std.proofs.Common.{◌≡◌, ℕ, suc, ◌<◌, ◌≤◌, Bool, true, false, not, ◌&&◌, ◌||◌, ◌==◌, cond, IsTrue, List, [], ◌∷◌, ◌++◌, length, filter, Option, Some, None, is_some, unwrap_or, option_map, option_and_then, option_to_list, refl, sym, ◌∙◌, ap, subst, arith}
+use Rattle.std.proofs.Common.{◌≡◌, ℕ, suc, Bool, true, false, not, ◌&&◌, ◌==◌, cond, IsTrue, List, [], ◌∷◌, ◌++◌, length, filter, Option, None, option_to_list, refl, sym, ◌∙◌, ap}
 use Rattle.pe_events.specs.Timed.{Timed}
 use Rattle.pe_events.specs.declared.event.Event.{Event}
 use Rattle.pe_events.specs.declared.event.Event.TheVariants as event
-use Rattle.pe_rules.specs.History.{StepAnswer, Step, RepliedHistory, History, some_if}
+use Rattle.pe_rules.specs.History.{StepAnswer, Step, History, some_if}
 use Rattle.pe_rules.specs.Numbering.{makes_message, numbers_made}
 use Rattle.pe_rules.specs.Delegation.{Message, message_by, message, is_delivery_of, is_message_settled, is_waiting_in, waiting_messages}
 use Rattle.pe_rules.specs.Replies.{step_answer, replied, is_regular}
 use Rattle.pe_laws.specs.HistoryLaws.{HistoryLaws}
 use Rattle.pe_laws.specs.EffectsLaws.{effects_of}
 use Rattle.pe_laws.specs.PromptsLaws.{step_of}
-use Rattle.pe_isolation.proofs.Alike.{Alike, length-alike}
+use Rattle.pe_isolation.proofs.Alike.{length-alike}
 use Rattle.pe_isolation.proofs.Quiet.{and-false}
-use Rattle.pe_isolation.proofs.Pages.{same-numbers, is-same, both}
-use Rattle.pe_isolation.proofs.Beside.{own, is_own, IsBeside}
+use Rattle.pe_isolation.proofs.Pages.{same-numbers, is-same}
+use Rattle.pe_isolation.proofs.Beside.{is_own, IsBeside}
 use Rattle.pe_isolation.proofs.Agreeing.{Agrees, own-test-alike, message-by-alike}
 
 -- a list without the numbers that fail a test has none of them to take out
@@ -93,6 +93,6 @@ module _ (laws : HistoryLaws) (top : ℕ) where
       by_posting (deliver m is) =
           laws.delegation.waiting_delivered duration H e m top is
           ∙ taken-out (is_waiting_in (replied duration H) top) m
-              (no-wait (not (is_message_settled (replied duration H) m)) (is_own top (message (replied duration H) m)) (beside.delivers m (ap (λ x. is_delivery_of x m) is ∙ is-same m)))
-              (numbers_made (λ s. makes_message s.item) (replied duration H))
+          (no-wait (not (is_message_settled (replied duration H) m)) (is_own top (message (replied duration H) m)) (beside.delivers m (ap (λ x. is_delivery_of x m) is ∙ is-same m)))
+          (numbers_made (λ s. makes_message s.item) (replied duration H))
       by_posting (neither posts settles) = laws.delegation.waiting_stay duration H e top posts settles
