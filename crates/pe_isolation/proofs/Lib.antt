@@ -1,0 +1,17 @@
+pub mod Alike
+pub mod Quiet
+pub mod Made
+pub mod Shown
+pub mod Policies
+pub mod Stored
+pub mod Prompted
+pub mod Listed
+pub mod Pages
+pub mod Posted
+pub mod Beside
+pub mod Agreeing
+pub mod Waiting
+pub mod Going
+pub mod Answered
+pub mod Refused
+pub mod Isolated

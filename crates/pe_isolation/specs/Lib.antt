@@ -1,0 +1,2 @@
+pub mod PageEvents
+pub mod IsolationLaws
