@@ -2,9 +2,6 @@
 //! no text of a script, and what the frame may do before an input, after it, and five seconds later.
 #![tactic(auto)]
 
-ghost use Rattle.std.specs.Prelude.{◌≤◌, IfSome};
-ghost use Rattle.pe_base.specs.declared.limits.TheConstants.{EVENT_LIMIT};
-
 mod browser;
 
 use browser::{may, tell, text};
@@ -24,7 +21,6 @@ fn frame_made(replies: &Replies) -> Option<FrameNo> {
 }
 
 /// Opens a page.
-#[tactic(auto, unfolding(pe_events::specs::Fitting::is_fitting))]
 fn open(engine: &mut Engine, now: Millis, url: &[u8]) -> Result<Option<FrameNo>, AllocError> {
     let Some(url) = text(url) else {
         return Ok(None);
@@ -34,7 +30,6 @@ fn open(engine: &mut Engine, now: Millis, url: &[u8]) -> Result<Option<FrameNo>,
 }
 
 /// Embeds a frame, with an `allow` attribute, in the document of another.
-#[tactic(auto, unfolding(pe_events::specs::Fitting::is_fitting))]
 fn embed(
     engine: &mut Engine,
     now: Millis,
@@ -60,7 +55,6 @@ fn embed(
 }
 
 /// The user clicks in a frame.
-#[tactic(auto, unfolding(pe_events::specs::Fitting::is_fitting))]
 fn click(engine: &mut Engine, now: Millis, frame: FrameNo) -> Result<(), AllocError> {
     let event = Event::Input {
         frame: frame.get(),
@@ -71,7 +65,6 @@ fn click(engine: &mut Engine, now: Millis, frame: FrameNo) -> Result<(), AllocEr
 }
 
 /// A frame's document asks for a permission, and the user allows it as long as the page is there.
-#[tactic(auto, unfolding(pe_events::specs::Fitting::is_fitting))]
 fn ask(
     engine: &mut Engine,
     now: Millis,
@@ -98,7 +91,6 @@ fn ask(
 }
 
 /// Lets the time go on.
-#[tactic(auto, unfolding(pe_events::specs::Fitting::is_fitting))]
 fn wait(engine: &mut Engine, now: Millis) -> Result<(), AllocError> {
     tell(engine, now, Event::Tick)?;
     Ok(())
