@@ -79,7 +79,7 @@ fn ask(
         feature,
     };
     let replies = tell(engine, now, event)?;
-    if let Answer::PromptMade { prompt } = replies.answer {
+    if let Answer::PromptMade { prompt } = &replies.answer {
         let event = Event::Answered {
             prompt: prompt.get(),
             outcome: Outcome::Allow,
