@@ -30,12 +30,12 @@ fn open(engine: &mut Engine, now: Millis, url: &[u8]) -> Result<Option<FrameNo>,
 }
 
 /// Embeds a frame, with an `allow` attribute, in the document of another.
-fn embed(
+fn embed<'a>(
     engine: &mut Engine,
     now: Millis,
     parent: FrameNo,
-    src: &[u8],
-    allow: &[u8],
+    src: &'a [u8],
+    allow: &'a [u8],
 ) -> Result<Option<FrameNo>, AllocError> {
     let (Some(src), Some(allow)) = (text(src), text(allow)) else {
         return Ok(None);
@@ -110,8 +110,9 @@ fn words(verdict: Option<Verdict>) -> &'static str {
     }
 }
 
-/// Prints what a frame may do now.
-fn show(rt: &impl Print, engine: &Engine, frame: FrameNo) -> io::Result<()> {
+/// Prints when it is, and what a frame may do now.
+fn show(rt: &impl Print, when: &str, engine: &Engine, frame: FrameNo) -> io::Result<()> {
+    println!(rt; "{when}")?;
     let calls = [
         ("show-payment", Call::ShowPayment),
         ("get-user-media-camera", Call::GetUserMediaCamera),
@@ -124,23 +125,30 @@ fn show(rt: &impl Print, engine: &Engine, frame: FrameNo) -> io::Result<()> {
     Ok(())
 }
 
-fn main(rt: HostRuntime) -> io::Result<()> {
-    let mut engine = Engine::new(rt.alloc(), 5000);
-    let begin = Millis::of(0);
-    let Some(page) = open(&mut engine, begin, b"https://shop.example/")? else {
-        return Ok(());
+/// A shop's page with the frame of its payment service, which is given.
+fn shop(engine: &mut Engine) -> Result<Option<FrameNo>, AllocError> {
+    let now = Millis::of(0);
+    let Some(page) = open(engine, now, b"https://shop.example/")? else {
+        return Ok(None);
     };
     let allow = b"payment; geolocation";
-    let Some(frame) = embed(&mut engine, begin, page, b"https://pay.example/", allow)? else {
-        return Ok(());
-    };
-    println!(rt; "the frame at first")?;
-    show(&rt, &engine, frame)?;
-    click(&mut engine, Millis::of(1000), frame)?;
-    ask(&mut engine, Millis::of(1500), frame, b"geolocation")?;
-    println!(rt; "after a click and a prompt")?;
-    show(&rt, &engine, frame)?;
-    wait(&mut engine, Millis::of(6000))?;
-    println!(rt; "five seconds after the click")?;
-    show(&rt, &engine, frame)
+    embed(engine, now, page, b"https://pay.example/", allow)
+}
+
+/// What the frame may do as the user acts and time goes on.
+fn visit(rt: &impl Print, engine: &mut Engine, frame: FrameNo) -> io::Result<()> {
+    show(rt, "the frame at first", engine, frame)?;
+    click(engine, Millis::of(1000), frame)?;
+    ask(engine, Millis::of(1500), frame, b"geolocation")?;
+    show(rt, "after a click and a prompt", engine, frame)?;
+    wait(engine, Millis::of(6000))?;
+    show(rt, "five seconds after the click", engine, frame)
+}
+
+fn main(rt: HostRuntime) -> io::Result<()> {
+    let mut engine = Engine::new(rt.alloc(), 5000);
+    match shop(&mut engine)? {
+        Some(frame) => visit(&rt, &mut engine, frame),
+        None => Ok(()),
+    }
 }
