@@ -24,7 +24,7 @@ use Rattle.pe_laws.specs.PermissionStateLaws.{is_blocked, state_from}
 use Rattle.pe_laws.specs.SettingsLaws.{in_force}
 use Rattle.pe_laws.specs.StatusesLaws.{Each}
 use Rattle.pe_changes.specs.Bags.{count, IsSameBag}
-use Rattle.pe_changes.specs.Gathered.{change_from, outlasts, lasting, change_at_end, change_by_entry, change_by_lapse, AreLapses}
+use Rattle.pe_changes.specs.Gathered.{change_from, outlasts, lasting, NoneEnds, change_at_end, change_by_entry, change_by_lapse, AreLapses}
 use Rattle.pe_changes.specs.Parts.{entry_by, entry_in, IsStore, status_of_row, IsStatuses}
 use Rattle.pe_changes.proofs.Counts.{count-exchange, count-permutation, flat-same, each-both, each-weaker, each-all}
 use Rattle.pe_changes.proofs.Order.{IsWeak, ordered-is}
@@ -236,6 +236,26 @@ lasting-in T to p later = by_setting (last_setting T p)
     by_setting : (o : Option Setting) → lasting to (option_map entry_by (option_and_then (λ (x : Setting). some_if (holds T (clock T) x.life) x) o)) ≡ option_map entry_by (option_and_then (λ (x : Setting). some_if (holds T to x.life) x) o)
     by_setting None = refl
     by_setting (Some x) = lasting-by to x (holds T to x.life) (holds T (clock T) x.life) (holds-later T to later x.life)
+
+and-same : (b : Bool) → (b && b) ≡ b
+and-same true = refl
+and-same false = refl
+
+-- what holds at a time goes on after it
+holds-lasting : (T : RepliedHistory) (to : ℕ) (l : Life) → (holds T to l && outlasts to l) ≡ holds T to l
+unfolding holds
+holds-lasting T to life.Forever = refl
+holds-lasting T to (life.Page d) = and-true (is_current T d)
+holds-lasting T to (life.Until end) = and-same (nat_lt to end)
+
+-- no entry of a store that stands for steps at a time ends by then
+pub none-ends : (T : RepliedHistory) (to : ℕ) (value : StoreValue) → IsStore T to value → NoneEnds to value.entries
+unfolding entry_in in_force
+none-ends T to value is p = ap (lasting to) (is.found p) ∙ by_setting (last_setting T p) ∙ sym (is.found p)
+  where
+    by_setting : (o : Option Setting) → lasting to (option_map entry_by (option_and_then (λ (x : Setting). some_if (holds T to x.life) x) o)) ≡ option_map entry_by (option_and_then (λ (x : Setting). some_if (holds T to x.life) x) o)
+    by_setting None = refl
+    by_setting (Some x) = lasting-by to x (holds T to x.life) (holds T to x.life) (holds-lasting T to x.life)
 
 was-lasting : (to : ℕ) (o : Option Entry) (e : Entry) → lasting to o ≡ Some e → o ≡ Some e
 was-lasting to None e h = cc

@@ -1,5 +1,5 @@
 -- Entries that are taken out one by one, and the changes that this brings.
-use Rattle.std.proofs.Common.{◌≡◌, inl, inr, ℕ, zero, suc, ◌<◌, ◌≤◌, Bool, true, false, ◌&&◌, nat_lt, List, [], ◌∷◌, ◌++◌, filter, flat_map, slice_get, Option, Some, None, is_some, option_and_then, refl, sym, ◌∙◌, ap, arith, cond, subst, true≢false}
+use Rattle.std.proofs.Common.{◌≡◌, ◌⊎◌, inl, inr, ℕ, zero, suc, ◌+◌, ◌<◌, ◌≤◌, Bool, true, false, ◌&&◌, nat_lt, List, [], ◌∷◌, ◌++◌, length, filter, flat_map, slice_get, Option, Some, None, is_some, option_and_then, refl, sym, ◌∙◌, ap, arith, cond, subst, true≢false}
 use Rattle.std.specs.Bool.{Decides}
 use Rattle.std.specs.List.{find}
 use Rattle.std.proofs.lemmas.Bool.Decides.{nat_tests}
@@ -11,11 +11,12 @@ use Rattle.pe_store.specs.declared.key.Life.{Life}
 use Rattle.pe_store.specs.declared.key.Life.TheVariants as life
 use Rattle.pe_store.specs.Due.{moment_of, IsDue}
 use Rattle.pe_store.specs.Entries as store
+use Rattle.pe_store.specs.Entries.{StoreValue}
 use Rattle.pe_store.specs.Pairs.{Pair, is_same_pair}
 use Rattle.pe_status.specs.declared.registered.Registered.{Registered}
 use Rattle.pe_status.specs.Registry.{pair_of, is_under, later_under}
 use Rattle.pe_changes.specs.Bags.{count}
-use Rattle.pe_changes.specs.Gathered.{change_from, outlasts, lasting, change_at_end, change_by_entry, change_by_lapse, change_so_far, IsLeft, AreSomeLapses, AreLapses}
+use Rattle.pe_changes.specs.Gathered.{change_from, outlasts, lasting, change_at_end, change_by_entry, change_by_lapse, change_so_far, NoneEnds, IsLeft, AreSomeLapses, AreLapses}
 use Rattle.pe_changes.proofs.Counts.{count-append, count-split, flat-none, flat-same, each-all}
 
 -- ---- the statuses of a pair
@@ -50,14 +51,25 @@ lapses-none to silent live entries = record {
 
 -- ---- one more
 
+not-kept : (to : ℕ) (e : Entry) (moment : ℕ) → e.life ≡ life.Until moment → moment ≤ to → lasting to (Some e) ≡ None
+not-kept to e moment ends le = let fails : nat_lt to moment ≡ false = grind (arith, nat_tests) in rw (ends, fails) refl
+
+-- where none ends by the time, there is none that ended
+pub none-ended : (to : ℕ) (old now : StoreValue) (e : Entry) (moment : ℕ) → NoneEnds to old.entries → now ≡ old → store.entry_of now.entries (store.pair_of e) ≡ Some e → e.life ≡ life.Until moment → moment ≤ to → ⊥
+none-ended to old now e moment none same was ends le =
+    let there : store.entry_of old.entries (store.pair_of e) ≡ Some e = ap (λ (v : StoreValue). store.entry_of v.entries (store.pair_of e)) (sym same) ∙ was in
+    let absent : ◌≡◌ {A = Option Entry} None (Some e) = sym (not-kept to e moment ends le) ∙ ap (lasting to) (sym there) ∙ none (store.pair_of e) ∙ there in cc
+
+-- one that is taken out leaves fewer
+pub fewer-more : (old now new : StoreValue) → (now ≡ old) ⊎ (length now.entries < length old.entries) → length new.entries + 1 ≡ length now.entries → (new ≡ old) ⊎ (length new.entries < length old.entries)
+fewer-more old now new (inl same) less = let count : length now.entries ≡ length old.entries = ap (λ (v : StoreValue). length v.entries) same in inr (omega (arith, count, less))
+fewer-more old now new (inr few) less = inr (omega (arith, few, less))
+
 module _ (pairs : (p q : Pair) → Decides (is_same_pair p q) (p ≡ q)) (to : ℕ) (silent : Registered → Bool) (live : List Registered) (old now : List Entry) (new : List Entry) (e : Entry) where
   -- what the entry was at the beginning
   was-there : store.entry_of now (store.pair_of e) ≡ Some e → IsLeft to (store.entry_of old (store.pair_of e)) (store.entry_of now (store.pair_of e)) → store.entry_of old (store.pair_of e) ≡ Some e
   was-there was (inl same) = sym same ∙ was
   was-there was (inr gone) = let absent : ◌≡◌ {A = Option Entry} None (Some e) = sym gone.0 ∙ was in cc
-
-  not-kept : (moment : ℕ) → e.life ≡ life.Until moment → moment ≤ to → lasting to (Some e) ≡ None
-  not-kept moment ends le = let fails : nat_lt to moment ≡ false = grind (arith, nat_tests) in rw (ends, fails) refl
 
   left-more : (moment : ℕ) → e.life ≡ life.Until moment → moment ≤ to → store.entry_of now (store.pair_of e) ≡ Some e
       → ((p : Pair) → store.entry_of new p ≡ cond (is_same_pair (store.pair_of e) p) None (store.entry_of now p))
@@ -69,7 +81,7 @@ module _ (pairs : (p q : Pair) → Decides (is_same_pair p q) (p ≡ q)) (to : �
       by_same true is f =
           let q : store.pair_of e ≡ p = (pairs (store.pair_of e) p).0 is in
           let o : store.entry_of old p ≡ Some e = ap (store.entry_of old) (sym q) ∙ was-there was (left (store.pair_of e)) in
-          inr (f, ap (lasting to) o ∙ not-kept moment ends le)
+          inr (f, ap (lasting to) o ∙ not-kept to e moment ends le)
 
   gone-before : store.entry_of now (store.pair_of e) ≡ Some e → (r : Registered) → is_under (store.pair_of e) r ≡ true → change_so_far to silent old now r ≡ []
   unfolding change_so_far

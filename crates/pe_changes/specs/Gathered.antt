@@ -46,6 +46,10 @@ outlasts to other = true
 abbrev pub lasting : ℕ → Option Entry → Option Entry
 lasting to o = option_and_then (λ e. some_if (outlasts to e.life) e) o
 
+-- no entry ends by a moment
+abbrev pub NoneEnds : ℕ → List Entry → Type 0
+NoneEnds to entries = (pair : Pair) → lasting to (entry_of entries pair) ≡ entry_of entries pair
+
 -- the change of a status at the end of a life, where that comes by a moment
 abbrev pub change_at_end : ℕ → (Registered → Bool) → Registered → State → Life → List Change
 change_at_end to silent r before (life.Until end) = if nat_lt to end then [] else change_from silent end before state.Prompt r

@@ -1,6 +1,6 @@
 -- For what a store stands after a step.
 -- Permissions, "permission store", "lifetime"; the embargo is this project's own.
-use Rattle.std.specs.Prelude.{◌≡◌, ◌≢◌, ℕ, ◌+◌, false, ◌&&◌, IsTrue, [], ◌∷◌, length, None, Some, is_some, option_map, if◌then◌else◌}
+use Rattle.std.specs.Prelude.{◌≡◌, ◌≢◌, ◌⊎◌, ℕ, ◌+◌, ◌<◌, false, ◌&&◌, IsTrue, [], ◌∷◌, length, None, Some, is_some, option_map, if◌then◌else◌}
 use Rattle.pe_store.specs.declared.entry.Entry.{Entry}
 use Rattle.pe_store.specs.Entries as store
 use Rattle.pe_store.specs.Entries.{StoreValue, dismissals_of, entry_of, IsOnePerPair}
@@ -16,6 +16,7 @@ use Rattle.pe_rules.specs.Settings.{Setting, prompt_pair, setting_by, holds, cou
 use Rattle.pe_rules.specs.Causes.{entries}
 use Rattle.pe_rules.specs.Replies.{replied, is_regular}
 use Rattle.pe_laws.specs.EffectsLaws.{effects_of}
+use Rattle.pe_changes.specs.Gathered.{lasting}
 use Rattle.pe_changes.specs.Parts.{entry_by, IsStore}
 
 -- the pair of a setting has its entry, no dismissal of it counts any more, and all else is as before
@@ -34,6 +35,12 @@ pub record IsDismissed (dismissed : Pair) (now : ℕ) (old new : StoreValue) : T
 pub record IsEnded (doc : ℕ) (old new : StoreValue) : Type 0 where
   pub found : (pair : Pair) → entry_of new.entries pair ≡ (if has_life is_page_of doc (entry_of old.entries pair) then None else entry_of old.entries pair)
   pub dismissals : new.dismissals ≡ old.dismissals
+
+-- the entries that end by a moment were taken out, and all else is as before: there are fewer entries then, unless none ended
+pub record IsLapsed (to : ℕ) (old new : StoreValue) : Type 0 where
+  pub found : (pair : Pair) → entry_of new.entries pair ≡ lasting to (entry_of old.entries pair)
+  pub dismissals : new.dismissals ≡ old.dismissals
+  pub fewer : (new ≡ old) ⊎ (length new.entries < length old.entries)
 
 -- what holds of a store that stands for steps
 pub record StoreSteps : Type 0 where

@@ -1,12 +1,13 @@
 //! The changes that the passing of time brings.
-ghost use Rattle.std.specs.Prelude.{◌≡◌, ◌≤◌, ◌+◌, ◌++◌, IfOk, OnOk, flat_map, length, None};
+ghost use Rattle.std.specs.Prelude.{◌≡◌, ◌⊎◌, ◌<◌, ◌≤◌, ◌+◌, ◌++◌, IfOk, OnOk, flat_map, length, None};
 ghost use Rattle.pe_base.specs.declared.state.State.TheVariants as state;
 ghost use Rattle.pe_store.specs.Entries as store;
 ghost use Rattle.pe_status.specs.Registry.{later_under};
 ghost use Rattle.pe_rules.specs.History.{RepliedHistory, clock};
 ghost use Rattle.pe_rules.specs.Changes.{changes_before};
 ghost use Rattle.pe_changes.specs.Parts.{is_silent, IsStore, IsStatuses, AreGoverned};
-ghost use Rattle.pe_changes.specs.Gathered.{change_from, AreLapses};
+ghost use Rattle.pe_changes.specs.Gathered.{change_from, NoneEnds, AreLapses};
+ghost use Rattle.pe_changes.specs.StoreSteps.{IsLapsed};
 
 use crate::governed::Governed;
 use crate::walking::append_changes;
@@ -55,6 +56,8 @@ fn gather_lapses<D: Governed, L: Ledger>(
 ) -> Result<Vec<Change>, AllocError>
     ensures list { IfOk result (λ changes. AreLapses to (is_silent D.doc_no D.blocks_feature frames.now.entries) statuses.now.live store.old.entries store.new.entries changes.items) }
     ensures dismissals { OnOk result (store.new.dismissals ≡ store.old.dismissals) }
+    ensures fewer { OnOk result ((store.new ≡ store.old) ⊎ (length store.new.entries < length store.old.entries)) }
+    ensures idle { NoneEnds to store.old.entries → steps.new ≡ steps.old }
     ensures cost { OnOk result (steps.new + length store.new.entries ≤ steps.old + length store.old.entries + length statuses.now.live) }
 {
     same_pairs_are_one();
@@ -77,7 +80,7 @@ fn gather_lapses<D: Governed, L: Ledger>(
 /// dismissed stays.
 /// `AllocError` where memory wants; entries may then be gone without their changes.
 /// It costs a logarithm of the entries and one tick for each entry that ends, at most one tick for each live
-/// status, and one sort of the changes.
+/// status, and one sort of the changes. Of a store that stands for steps at that time already it costs no tick.
 pub fn lapse<D: Governed, L: Ledger>(
     alloc: Global,
     store: &mut Store,
@@ -88,6 +91,8 @@ pub fn lapse<D: Governed, L: Ledger>(
 ) -> Result<Vec<Change>, AllocError>
     ensures changes { (T : RepliedHistory) → clock T ≤ to → IsStore T (clock T) store.old → IsStatuses T statuses.now → AreGoverned T D.doc_no D.blocks_feature frames.now.entries statuses.now.live → IfOk result (λ changes. changes.items ≡ changes_before T to) }
     ensures stands { (T : RepliedHistory) → clock T ≤ to → IsStore T (clock T) store.old → OnOk result (IsStore T to store.new) }
+    ensures lapsed { OnOk result (IsLapsed to store.old store.new) }
+    ensures idle { (T : RepliedHistory) → IsStore T to store.old → steps.new ≡ steps.old }
     ensures cost { OnOk result (steps.new + length store.new.entries ≤ steps.old + length store.old.entries + length statuses.now.live) }
 {
     history_laws();

@@ -36,3 +36,4 @@ pub mod Messaging
 pub mod Posting
 pub mod Delivering
 pub mod Numbers
+pub mod Isolated

@@ -18,3 +18,4 @@ pub mod Prompting
 pub mod Using
 pub mod Registering
 pub mod Posting
+pub mod Isolation

@@ -4,6 +4,10 @@ ghost use Rattle.pe_base.specs.declared.denial.Denial.{Denial};
 ghost use Rattle.pe_events.specs.declared.answer.Answer.TheVariants as answer;
 ghost use Rattle.pe_events.specs.declared.event.Event.TheVariants as event;
 ghost use Rattle.pe_events.specs.declared.reason.Reason.TheVariants as reason;
+ghost use Rattle.pe_rules.specs.Muting.{muted};
+ghost use Rattle.pe_rules.specs.Replies.{is_regular};
+ghost use Rattle.pe_isolation.specs.PageEvents.{is_of_page};
+ghost use Rattle.pe_engine.specs.Isolation.{IsMutedReply};
 ghost use Rattle.pe_engine.specs.Promises.{IsAllowedIn, IsDeniedIn, AreOfLive};
 ghost use Rattle.pe_engine.specs.Replying.{timed, steps_of, is_plain, IsAnswer, IsReplied};
 ghost use Rattle.pe_engine.specs.Stepping.{IsReply};
@@ -14,6 +18,7 @@ use crate::refusal::Refusal;
 use crate::replies::Replies;
 use pe_base::{Millis, Steps};
 use pe_events::{Answer, Cause, Event, Stamped};
+use pe_isolation::isolation_laws;
 use std::alloc::AllocError;
 use std::sync::ledger::Ledger;
 
@@ -209,6 +214,11 @@ impl Engine {
         ensures after { (H : History) → StandsFor self.old H
             → IfOk result (λ r. AreOfLive (steps_of self.old H) r.after.items × AreOfLive (steps_of self.old (timed stamped.now.time stamped.now.event ∷ H)) r.after.items) }
 
+        // A page is told the same whatever inputs, uses, posts, deliveries and history actions other pages have.
+        ensures isolated { (H : History) (top : ℕ) → StandsFor self.old H → IsTrue (is_of_page (steps_of self.old H) top stamped.now.event)
+            → IfOk result (IsMutedReply self.old.duration top H (timed stamped.now.time stamped.now.event)) }
+        ensures muted { (H : History) (top : ℕ) → StandsFor self.old H → IsTrue (is_regular self.old.duration (muted self.old.duration top H)) }
+
         // What the policy's answers say of each document from the page's top one down.
         ensures allowed { (H : History) (frame : ℕ) (name : List ℕ) → StandsFor self.old H → stamped.now.event ≡ event.PolicyOf frame name
             → IfOk result (λ r. r.answer ≡ answer.Allowed → IsAllowedIn (steps_of self.old H) frame name) }
@@ -216,6 +226,7 @@ impl Engine {
             → IfOk result (λ r. r.answer ≡ answer.Denied (reason.Policy why) → IsDeniedIn (steps_of self.old H) frame name why) }
     {
         engine_laws();
+        isolation_laws();
         self.reply(stamped, steps)
     }
 }

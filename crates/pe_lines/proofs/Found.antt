@@ -1,6 +1,6 @@
 -- What each step of the reader of words finds, over plain lists.
 use Rattle.std.proofs.Common.{◌≡◌, ℕ, suc, zero, ◌+◌, ◌<◌, ◌≤◌, Bool, true, false, not, List, [], ◌∷◌, ◌++◌, length, take, drop, get_or, Option, Some, None, sym, ap, ◌∙◌, refl, arith, append_assoc, length-append, subst}
-use Rattle.std.specs.Prelude.{◌==◌, ◌||◌, if◌then◌else◌, option_map}
+use Rattle.std.specs.Prelude.{◌==◌, ◌||◌, ◌&&◌, if◌then◌else◌, option_map}
 use Rattle.std.specs.List.{list_all, list_any, position, position_or_len}
 use Rattle.std.proofs.lemmas.Bool.Decides.{nat_tests}
 use Rattle.std.proofs.lemmas.Bool.{eqb-true}
@@ -10,17 +10,17 @@ use Rattle.std.proofs.lemmas.List.Sums.{fails_before_first, passes_at_first, pre
 use Rattle.pe_lines.specs.declared.word.Word.{Word}
 use Rattle.pe_lines.specs.Words.{is_blank, Between, Bare, Quoted, Escaped, Closed, Ahead, closed, longer, begun, ahead_at_byte, ahead_of, words_of}
 use Rattle.pe_lines.specs.Grammar.{is_escaped, escaped, ends_bare, is_bare, IsBareText, ends_word}
-use Rattle.pe_lines.specs.Steps.{IsWordAt, HasNoWords, char_len, begins_quote, IsEscapedFront, ClosesAfter, NeverCloses, without_escapes}
+use Rattle.pe_lines.specs.Steps.{IsWordAt, HasNoWords, char_len, begins_escape, begins_plain, begins_quote, IsEscapedFront, ClosesAfter, NeverCloses, without_escapes}
 use Rattle.pe_lines.proofs.Ahead.{kind_by, prefixed, with_word, and_first, and_rest, first_bare_byte, bare_byte, quoted_ahead}
 use Rattle.pe_lines.proofs.Agreement.{word_ahead}
 
 -- ---- bare words
 
--- where no byte ends a bare word it goes on to the end
-pub bare_to_end : (bytes : List ℕ) → position ends_bare bytes ≡ None → length bytes ≡ position_or_len ends_bare bytes
-bare_to_end bytes e =
-    let past : length bytes ≤ position_or_len ends_bare bytes = grind (arith, nat_tests) in
-    omega (arith, prefix_len-le-length (λ b. not (ends_bare b)) bytes)
+-- where no byte passes the test, all stand before the first that does
+pub to_end : (p : ℕ → Bool) (bytes : List ℕ) → position p bytes ≡ None → length bytes ≡ position_or_len p bytes
+to_end p bytes e =
+    let past : length bytes ≤ position_or_len p bytes = grind (arith, nat_tests) in
+    omega (arith, prefix_len-le-length (λ b. not (p b)) bytes)
 
 all_bare : (bytes : List ℕ) → list_all is_bare (take (position_or_len ends_bare bytes) bytes) ≡ true
 all_bare bytes =
@@ -190,6 +190,68 @@ never_closes bytes at (text, front) e quote place =
     ap (ahead_of Quoted place) (sym (take-append-drop at bytes) ∙ ap (λ l. l ++ drop at bytes) front)
     ∙ quoted_ahead place (place + length (escaped text)) text (drop at bytes) refl
     ∙ ap (option_map (prefixed text)) (stops (place + length (escaped text)) (drop at bytes) e quote)
+
+-- ---- the text up to the next quote or backslash
+
+as_it_stands : (text : List ℕ) → list_all (λ b. not (is_escaped b)) text ≡ true → text ≡ escaped text
+as_it_stands [] h = refl
+as_it_stands (b ∷ text) h =
+    ap (λ l. b ∷ l) (as_it_stands text (and_rest (not (is_escaped b)) (list_all (λ b. not (is_escaped b)) text) h))
+    ∙ plain_step b text (is_escaped b) refl (and_first (not (is_escaped b)) (list_all (λ b. not (is_escaped b)) text) h)
+  where
+    plain_step : (b : ℕ) (text : List ℕ) (v : Bool) → is_escaped b ≡ v → not (is_escaped b) ≡ true → b ∷ escaped text ≡ escaped (b ∷ text)
+    plain_step b text true e h = cc
+    plain_step b text false e h = rw e refl
+
+all_plain : (bytes : List ℕ) → list_all (λ b. not (is_escaped b)) (take (position_or_len is_escaped bytes) bytes) ≡ true
+all_plain bytes =
+    let n = position_or_len is_escaped bytes in
+    list_all-from_AllPass (λ b. not (is_escaped b)) (take n bytes) (λ k d h.
+    let small : k < n = omega (arith, length-take n bytes) in
+    rw get_or-take (ap not (fails_before_first is_escaped bytes k d small)))
+
+stops_here : (rest : List ℕ) → (0 < length rest → is_escaped (get_or rest 0 0) ≡ true) → begins_plain rest ≡ false
+stops_here [] h = refl
+stops_here (b ∷ rest) h = ap not (h (omega arith))
+
+-- the text goes on to the next quote or backslash, or to the end
+pub plain_grows : (bytes : List ℕ) (at n : ℕ) → at ≤ length bytes → IsEscapedFront bytes at → n ≡ position_or_len is_escaped (drop at bytes) → n ≤ length (drop at bytes)
+    → (at + n ≤ length bytes) × IsEscapedFront bytes (at + n) × (begins_plain (drop (at + n) bytes) ≡ false)
+plain_grows bytes at n within (text, front) e short =
+    let rest = drop at bytes in
+    let plain : list_all (λ b. not (is_escaped b)) (take n rest) ≡ true = subst (λ k. list_all (λ b. not (is_escaped b)) (take k rest) ≡ true) (sym e) (all_plain rest) in
+    let ends : 0 < length (drop n rest) → is_escaped (get_or (drop n rest) 0 0) ≡ true = λ h.
+    let here : position_or_len is_escaped rest < length rest = omega (arith, length-drop n rest) in
+    ap is_escaped (first_left rest n) ∙ subst (λ k. is_escaped (get_or rest k 0) ≡ true) (sym e) (passes_at_first is_escaped rest 0 here) in (
+      omega (arith, length-drop at bytes),
+      (text ++ take n rest, front_on bytes at n text (take n rest) front (as_it_stands (take n rest) plain) within ∙ sym (escaped-append text (take n rest))),
+      ap begins_plain (sym (drop-drop n at bytes)) ∙ stops_here (drop n rest) ends,
+    )
+
+two_long : (rest : List ℕ) → begins_escape rest ≡ true → char_len rest ≡ Some 2
+two_long [] h = cc
+two_long (b ∷ []) h = cc
+two_long (b ∷ c ∷ rest) h = rw (and_first (b == 92) (is_escaped c) h, and_rest (b == 92) (is_escaped c) h) refl
+
+-- an escape is a byte of the text
+pub escape_grows : (bytes : List ℕ) (at : ℕ) → at ≤ length bytes → IsEscapedFront bytes at → begins_escape (drop at bytes) ≡ true → (at + 2 ≤ length bytes) × IsEscapedFront bytes (at + 2)
+escape_grows bytes at within front h = let (some, short, more) = front_grows bytes at 2 within front (two_long (drop at bytes) h) in (short, more)
+
+none_long : (b c : ℕ) (p q r : Bool) → (b == 92) ≡ p → (b == 34) ≡ q → is_escaped c ≡ r → (p && r) ≡ false → q ≡ false → not (q || p) ≡ false → next_len p q r ≡ None
+none_long b c true q true e f g escape quote plain = cc
+none_long b c true q false e f g escape quote plain = refl
+none_long b c false true r e f g escape quote plain = refl
+none_long b c false false r e f g escape quote plain = cc
+
+-- at the end, and at a backslash that escapes nothing, the text has no closing quote
+pub stops_for_good : (rest : List ℕ) → begins_plain rest ≡ false → begins_escape rest ≡ false → begins_quote rest ≡ false → char_len rest ≡ None
+stops_for_good [] plain escape quote = refl
+stops_for_good (b ∷ []) plain escape quote = by_test (is_escaped b) plain
+  where
+    by_test : (v : Bool) → not v ≡ false → last_len v ≡ None
+    by_test true h = refl
+    by_test false h = cc
+stops_for_good (b ∷ c ∷ rest) plain escape quote = none_long b c (b == 92) (b == 34) (is_escaped c) refl refl refl escape quote plain
 
 begins_as : (rest : List ℕ) → begins_quote rest ≡ true → (more : List ℕ) × (rest ≡ 34 ∷ more)
 begins_as [] e = cc

@@ -4,6 +4,8 @@ pub mod Overlong
 pub mod Going
 pub mod Ahead
 pub mod Agreement
+pub mod Feeds
 pub mod Found
+pub mod Reading
 mod PlainTexts
 mod Rows

@@ -1,10 +1,10 @@
 -- The texts of words have no bad byte where their line has none.
-use Rattle.std.proofs.Common.{◌≡◌, ℕ, ◌+◌, ◌==◌, Bool, true, false, ◌||◌, List, [], ◌∷◌, Option, Some, None, option_map, refl, subst}
+use Rattle.std.proofs.Common.{◌≡◌, ℕ, ◌+◌, Bool, true, false, ◌||◌, List, [], ◌∷◌, Option, Some, None, option_map, refl, subst}
 use Rattle.std.specs.Prelude.{All}
 use Rattle.std.specs.List.{list_any}
 use Rattle.std.proofs.lemmas.List.Elements.{All-nil, All-cons}
 use Rattle.pe_lines.specs.declared.word.Word.{Word}
-use Rattle.pe_lines.specs.Words.{is_blank, is_bad_byte, has_bad_byte, Kind, Blank, Quote, Backslash, Other, kind_of, Stage, Between, Bare, Quoted, Escaped, Closed, Ahead, closed, longer, begun, ahead_at_end, ahead_at_byte, ahead_of, words_of}
+use Rattle.pe_lines.specs.Words.{is_bad_byte, has_bad_byte, Kind, Blank, Quote, Backslash, Other, kind_of, Stage, Between, Bare, Quoted, Escaped, Closed, Ahead, closed, longer, begun, ahead_at_end, ahead_at_byte, ahead_of, words_of}
 
 abbrev pub PlainWords : List Word → Type 0
 PlainWords words = All (λ (word : Word). list_any is_bad_byte word.text ≡ false) words

@@ -1,7 +1,7 @@
 -- What the steps of the reader of words find in a line.
 -- This project's own.
 -- These are facts of helpers; what the words of a line are is said by the grammar.
-use Rattle.std.specs.Prelude.{◌≡◌, ℕ, ◌<◌, ◌≤◌, ◌==◌, Bool, true, false, List, [], ◌∷◌, length, drop, take, if◌then◌else◌, Option, Some, None}
+use Rattle.std.specs.Prelude.{◌≡◌, ℕ, ◌<◌, ◌≤◌, ◌==◌, ◌&&◌, Bool, true, false, not, List, [], ◌∷◌, length, drop, take, if◌then◌else◌, Option, Some, None}
 use Rattle.pe_lines.specs.declared.word.Word.{Word}
 use Rattle.pe_lines.specs.Words.{Between, Quoted, ahead_of}
 use Rattle.pe_lines.specs.Grammar.{is_escaped, escaped, StandsFirst}
@@ -21,6 +21,16 @@ abbrev pub char_len : List ℕ → Option ℕ
 char_len [] = None
 char_len (b ∷ []) = if is_escaped b then None else Some 1
 char_len (b ∷ c ∷ rest) = if b == 92 then (if is_escaped c then Some 2 else None) else if b == 34 then None else Some 1
+
+-- a backslash comes first, and what it escapes
+abbrev pub begins_escape : List ℕ → Bool
+begins_escape (b ∷ c ∷ rest) = (b == 92) && is_escaped c
+begins_escape rest = false
+
+-- a byte comes first that has no backslash in front in quotes
+abbrev pub begins_plain : List ℕ → Bool
+begins_plain [] = false
+begins_plain (b ∷ rest) = not (is_escaped b)
 
 -- a quote comes first
 abbrev pub begins_quote : List ℕ → Bool
@@ -46,3 +56,8 @@ abbrev pub without_escapes : List ℕ → List ℕ
 without_escapes [] = []
 without_escapes (b ∷ []) = b ∷ []
 without_escapes (b ∷ c ∷ bytes) = if b == 92 then c ∷ without_escapes bytes else b ∷ without_escapes (c ∷ bytes)
+
+-- the text of a word, by what stands of it in the line
+abbrev pub text_of : Bool → List ℕ → List ℕ
+text_of true raw = without_escapes raw
+text_of false raw = raw

@@ -94,6 +94,15 @@ abbrev pub ahead_of : Stage → ℕ → List ℕ → Option Ahead
 ahead_of stage place [] = ahead_at_end stage place
 ahead_of stage place (b ∷ line) = ahead_at_byte stage (kind_of b) place b (λ next. ahead_of next (place + 1) line)
 
+-- the words from a place on, of what stands there; None where that is no list of words
+unfoldable pub words_from : ℕ → List ℕ → Option (List Word)
+words_from place line = option_map (λ ahead. ahead.words) (ahead_of Between place line)
+
+-- what is left of a line: its words, None where it is no list of words, and how many bytes
+pub record WordsLeft : Type 0 where
+  pub words : Option (List Word)
+  pub bytes : ℕ
+
 -- the words of a line; None where it is no list of words
 unfoldable pub words_of : List ℕ → Option (List Word)
 words_of line = option_map (λ ahead. ahead.words) (ahead_of Between 0 line)

@@ -6,6 +6,7 @@ ghost use Rattle.std.specs.List.{position};
 ghost use Rattle.std.specs.Str.Lines.{strip_carriage_return};
 ghost use Rattle.pe_lines.specs.Lines.{is_line_feed, HasNoLineFeed};
 
+use memchr::memchr;
 use pe_base::LINE_LIMIT;
 use std::alloc::{AllocError, Global};
 use std::marker::Model;
@@ -251,10 +252,11 @@ fn line_feed(held: &[u8], at: usize, scanned: usize) -> Option<usize>
 }
 
 /// The place of the first line feed.
+#[tactic(auto, using(crate::proofs::Feeds::first_feed))]
 fn first_line_feed(bytes: &[u8]) -> Option<usize>
     ensures { result ≡ position is_line_feed bytes.now }
 {
-    bytes.iter().position(|byte| *byte == b'\n')
+    memchr(b'\n', bytes)
 }
 
 /// Where the line of a part between line feeds ends.

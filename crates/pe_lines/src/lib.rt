@@ -3,11 +3,13 @@
 
 mod cutter;
 mod laws;
+mod span;
 mod text;
 mod word;
 
 pub use cutter::{Cut, Cutter};
 pub use laws::{cuts_go_on, ended_lines_stay, words_are_by_grammar};
+pub use span::{WordReader, WordSpan};
 pub use text::Text;
 pub use word::{Word, WordFault, words};
 

@@ -58,18 +58,23 @@ impl<'a> Text<'a> {
     ) -> Result<Text<'a>, AllocError>
         ensures { IfOk result (λ text. text ≡ front.entry ++ separator.now ++ back.now) }
     {
-        let mut bytes = front.into_bytes(alloc)?;
+        let room = separator.len().saturating_add(back.len());
+        let mut bytes = front.into_bytes(alloc, room)?;
         bytes.extend_from_slice(separator)?;
         bytes.extend_from_slice(back)?;
         Ok(Text::of(bytes))
     }
 
-    /// The bytes, which are copied where they are lent.
-    fn into_bytes(self, alloc: Global) -> Result<Vec<u8>, AllocError>
+    /// The bytes, which are copied where they are lent, with room for so many more behind them.
+    fn into_bytes(self, alloc: Global, room: usize) -> Result<Vec<u8>, AllocError>
         ensures { IfOk result (λ bytes. bytes.items ≡ self.entry) }
     {
         match self.place {
-            Place::Lent(bytes) => Vec::from_slice(alloc, bytes),
+            Place::Lent(bytes) => {
+                let mut copy = Vec::with_capacity(alloc, bytes.len().saturating_add(room))?;
+                copy.extend_from_slice(bytes)?;
+                Ok(copy)
+            }
             Place::Owned(bytes) => Ok(bytes),
         }
     }

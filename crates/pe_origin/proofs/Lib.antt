@@ -1,4 +1,5 @@
 pub mod Hosts
+pub mod UsualUrls
 pub mod Utf8
 pub mod SameOrigin
 pub mod OnLiterals

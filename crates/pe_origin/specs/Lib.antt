@@ -1,4 +1,5 @@
 pub mod Schemes
 pub mod Places
+pub mod Usual
 pub mod Origins
 pub mod Trust

@@ -6,6 +6,7 @@ mod origin;
 mod place;
 mod scheme;
 mod trust;
+mod usual;
 
 pub use law::same_origins_are_one;
 pub use origin::{Origin, Tuple, origin_text, put_origin, same_origin};

@@ -3,12 +3,14 @@ ghost use Rattle.std.specs.Prelude.{◌≡◌, ◌≢◌, ◌↔◌, Some, None,
 ghost use Rattle.url.specs.Parser.{parse_url};
 ghost use Rattle.url.specs.Parts.{host_or_empty};
 ghost use Rattle.pe_origin.specs.Places as spec;
+ghost use Rattle.pe_origin.specs.Usual as usual;
 ghost use Rattle.pe_origin.specs.Places.{place_at, place_of_parsed};
 ghost use Rattle.pe_origin.specs.declared.place.PlaceFault.TheVariants.{NotAUrl};
 ghost use Rattle.pe_origin.specs.declared.place.PlaceKind.TheVariants.{Net};
 
 use crate::origin::Tuple;
 use crate::scheme::{HostForm, Scheme};
+use crate::usual::{Authority, usual_authority};
 use pe_base::Bytes;
 use std::alloc::{AllocError, Global};
 use thiserror::Error;
@@ -100,11 +102,29 @@ fn place_of(alloc: Global, url: &Url) -> Result<Place, AllocError>
     }
 }
 
+fn net_place(alloc: Global, authority: Authority<'_>) -> Result<Place, AllocError>
+    ensures { IfOk result (λ place. place ≡ usual.net_place authority.entry.scheme authority.entry.host.now authority.entry.port) }
+{
+    let tuple = Tuple {
+        scheme: authority.scheme,
+        host: Bytes::of(authority.host.to_vec(alloc)?),
+        form: HostForm::Domain,
+        port: authority.port,
+    };
+    Ok(Place {
+        kind: PlaceKind::Net,
+        tuple: Some(tuple),
+    })
+}
+
 fn read_url(alloc: Global, text: &str) -> Result<Place, PlaceFault>
     ensures read { IfOk result (λ place. place_of_parsed (parse_url None text.now) ≡ Some place) }
     ensures net { IfOk result (λ place. IsSome place.tuple ↔ (place.kind ≡ Net)) }
     ensures not_a_url { IfErr result (λ fault. fault ≡ NotAUrl → place_of_parsed (parse_url None text.now) ≡ None) }
 {
+    if let Some(authority) = usual_authority(text.as_bytes()) {
+        return net_place(alloc, authority).map_err(|_| PlaceFault::Memory);
+    }
     match Url::parse(alloc, text) {
         Ok(url) => place_of(alloc, &url).map_err(|_| PlaceFault::Memory),
         Err(ParseError::OutOfMemory | ParseError::Overflow) => Err(PlaceFault::Memory),

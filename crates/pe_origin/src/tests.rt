@@ -9,7 +9,7 @@ use std::collections::HashMap;
 use std::test::Fail;
 
 /// URLs with a tuple origin, its text, and whether they are potentially trustworthy.
-const NET: [(&str, &str, bool); 24] = [
+const NET: [(&str, &str, bool); 30] = [
     ("https://a.example/", "https://a.example", true),
     ("https://EXAMPLE.com:443/x", "https://example.com", true),
     ("http://a.example:8080", "http://a.example:8080", false),
@@ -35,6 +35,12 @@ const NET: [(&str, &str, bool); 24] = [
     ("ws://0x7f.255.255.254:81", "ws://127.255.255.254:81", true),
     ("http://128.0.0.1", "http://128.0.0.1", false),
     ("http://127.a.example", "http://127.a.example", false),
+    ("http://a.0x1g", "http://a.0x1g", false),
+    ("http://a--b.-a", "http://a--b.-a", false),
+    ("http://a.example\t:8\n0/", "http://a.example", false),
+    ("https://a.example?x ", "https://a.example", true),
+    ("wss://a..b:065535#x", "wss://a..b:65535", true),
+    ("http://a.example\\@b", "http://a.example", false),
     ("http://[0:0::1]:8080", "http://[::1]:8080", true),
     ("http://[::ffff:127.0.0.1]", "http://[::ffff:7f00:1]", false),
     (
@@ -60,13 +66,15 @@ const OPAQUE: [(&str, PlaceKind, bool); 11] = [
 ];
 
 /// Texts that are no URL.
-const NO_URL: [&[u8]; 8] = [
+const NO_URL: [&[u8]; 10] = [
     b"nonsense",
     b"",
     b"//a.example",
     b"https://",
     b"https://a b/",
     b"http://a:65536/",
+    b"http://a:8a/",
+    b"http://a.1b.0x/",
     b"http://[::1",
     b"https://a.example/\xff",
 ];

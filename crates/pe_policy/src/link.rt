@@ -2,6 +2,7 @@
 ghost use Rattle.std.specs.Prelude.{◌≡◌, ◌&&◌, not, is_none, Some, []};
 ghost use Rattle.pe_features.specs.declared.feature.Feature.{Feature};
 ghost use Rattle.pe_origin.specs.Origins.{is_same_origin};
+ghost use Rattle.pe_origin.specs.declared.origin.Origin.{Origin as OriginOf};
 ghost use Rattle.pe_allowlist.specs.Lists.{lists_of};
 ghost use Rattle.pe_policy.specs.Links as spec;
 ghost use Rattle.pe_policy.specs.Links.{ChainDocument};
@@ -33,21 +34,19 @@ fn container_refuses(container: &Container, origin: &Origin, feature: Feature) -
     }
 }
 
-/// Whether the container policy lacks the feature, whose default allowlist does not reach the child.
+/// Whether the container policy lacks the feature, whose default allowlist does not reach the child, which
+/// is same origin with its embedder or not.
 fn fails_default(
     default: DefaultList,
     container: &Container,
-    parent_origin: &Origin,
-    origin: &Origin,
+    is_same: bool,
     feature: Feature,
 ) -> bool
-    ensures { result ≡ (is_none (lists_of container.now feature) && spec.is_own_origin (Some default) && not (is_same_origin origin.now parent_origin.now)) }
+    ensures { result ≡ (is_none (lists_of container.now feature) && spec.is_own_origin (Some default) && not is_same) }
 {
     match default {
         DefaultList::Any => false,
-        DefaultList::OwnOrigin => {
-            container.get(feature).is_none() && !same_origin(origin, parent_origin)
-        }
+        DefaultList::OwnOrigin => !is_same && container.get(feature).is_none(),
     }
 }
 
@@ -64,17 +63,17 @@ pub(crate) fn failing_at_top(declared: &Declared, origin: &Origin, feature: Feat
     }
 }
 
-/// Which tests fail at a child.
+/// Which tests fail at a child that is same origin with its embedder or not.
 pub(crate) fn failing_at_child(
     parent: &Declared,
-    parent_origin: &Origin,
+    is_same: bool,
     container: &Container,
     origin: &Origin,
     declared: &Declared,
     feature: Feature,
 ) -> Links
-    ensures { result ≡ failing_at_child feature
-        (link_of 0 parent_origin.now parent.now [])
+    ensures { (parent_origin : OriginOf) → is_same ≡ is_same_origin origin.now parent_origin → result ≡ failing_at_child feature
+        (link_of 0 parent_origin parent.now [])
         (link_of 0 origin.now declared.now container.now) }
 {
     let Some(default) = feature.default_of() else {
@@ -83,7 +82,7 @@ pub(crate) fn failing_at_child(
     Links {
         embedder_header: header_refuses(parent, origin, feature),
         allow: container_refuses(container, origin, feature),
-        by_default: fails_default(default, container, parent_origin, origin, feature),
+        by_default: fails_default(default, container, is_same, feature),
         own_header: header_refuses(declared, origin, feature),
     }
 }
@@ -105,7 +104,12 @@ fn first_rule(
         Some(LinkRule::EmbedderHeader)
     } else if container_refuses(container, origin, feature) {
         Some(LinkRule::Allow)
-    } else if fails_default(default, container, parent_origin, origin, feature) {
+    } else if fails_default(
+        default,
+        container,
+        same_origin(origin, parent_origin),
+        feature,
+    ) {
         Some(LinkRule::Default)
     } else {
         None

@@ -15,7 +15,7 @@ use crate::row::{Links, Row};
 use pe_allowlist::{Container, Declared};
 use pe_base::{Denial, DocNo};
 use pe_features::Feature;
-use pe_origin::Origin;
+use pe_origin::{Origin, same_origin};
 use std::marker::Model;
 
 /// The policy of a document: for each feature why it is denied there, if it is, and which tests fail at
@@ -77,12 +77,13 @@ fn child_rows(
         → IsFalse (is_policy_controlled f)
         → slice_index_or result (feature_number f) allowed_row ≡ allowed_row }
 {
+    let is_same = same_origin(origin, parent_origin);
     let mut rows = [Row::ALLOWED; 16];
     for i in 0..16 {
         let feature = Feature::ALL[i];
         let links = failing_at_child(
             &parent.declared,
-            parent_origin,
+            is_same,
             container,
             origin,
             declared,

@@ -2,7 +2,7 @@ use Rattle.std.proofs.Common.{rules}
 use Rattle.std.proofs.lemmas.List.Sorted.{answers_always}
 use Rattle.pe_events.specs.declared.answer.Change.{Change}
 use Rattle.pe_changes.specs.Parts.{is_silent}
-use Rattle.pe_changes.proofs.Before.{before-is, lasting-store}
+use Rattle.pe_changes.proofs.Before.{before-is, none-ends, lasting-store}
 use Rattle.pe_changes.proofs.Governing.{silent-blocked}
 use Rattle.pe_changes.proofs.Order.{weak-sorted}
 use Rattle.pe_changes.proofs.Ordered.{comes_before, comes-order}
@@ -19,3 +19,12 @@ returns-clause-changes g c T later is stand governed =
 pub returns-clause-stands : goal.returns-clause-stands
 returns-clause-stands g c T later is =
     lasting-store T c.args.to later c.args.store.now c.gather_lapses.new.store c.in_ok-changes.ensures.list.left c.in_ok-changes.ensures.dismissals is
+
+pub returns-clause-lapsed : goal.returns-clause-lapsed
+returns-clause-lapsed g c = record { found = c.in_ok-changes.ensures.list.left; dismissals = c.in_ok-changes.ensures.dismissals; fewer = c.in_ok-changes.ensures.fewer }
+
+pub returns-in_err-changes-clause-idle : goal.returns-in_err-changes-clause-idle
+returns-in_err-changes-clause-idle g c = λ T is. c.gather_lapses.ensures.idle (none-ends T c.args.to c.args.store.now is)
+
+pub returns-clause-idle : goal.returns-clause-idle
+returns-clause-idle g c = λ T is. c.gather_lapses.ensures.idle (none-ends T c.args.to c.args.store.now is)

@@ -1,5 +1,6 @@
 use Rattle.pe_engine.specs.Replying.{timed}
 use Rattle.pe_engine.proofs.Firing.{clause-before, clause-after}
+use Rattle.pe_engine.proofs.Isolated.{clause-isolated}
 use Rattle.pe_engine.proofs.Promised.{clause-allowed, clause-denied}
 use Rattle.pe_engine.proofs.engine.Engine.step.Goals as goal
 
@@ -18,3 +19,10 @@ returns-clause-before g c = λ H s.
 pub returns-clause-after : goal.returns-clause-after
 returns-clause-after g c = λ H s.
     clause-after c.reply.result c.args.self.now c.reply.new.self H (timed c.args.stamped.now.time c.args.stamped.now.event) (c.reply.ensures.replied H s)
+
+pub returns-clause-isolated : goal.returns-clause-isolated
+returns-clause-isolated g c = λ H top s own.
+    clause-isolated c.isolation_laws.ensures c.reply.result c.args.self.now c.reply.new.self H (timed c.args.stamped.now.time c.args.stamped.now.event) top s own (c.reply.ensures.replied H s)
+
+pub returns-clause-muted : goal.returns-clause-muted
+returns-clause-muted g c = λ H top s. c.isolation_laws.ensures.regular c.args.self.now.duration top H s.regular

@@ -1,6 +1,6 @@
 use Rattle.std.proofs.Common.{◌≡◌, ◌++◌, length}
 use Rattle.pe_lines.specs.Steps.{without_escapes}
-use Rattle.pe_lines.proofs.word.without_escapes.Given as goal
+use Rattle.pe_lines.proofs.span.without_escapes.Given as goal
 
 abbrev pub invariant-loop-rest : goal.invariant-loop-rest
 invariant-loop-rest l = l.out.items ++ without_escapes l.rest ≡ without_escapes l.bytes
