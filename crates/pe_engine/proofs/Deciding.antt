@@ -24,9 +24,11 @@ use Rattle.pe_rules.specs.Activation.{has_sticky, has_transient}
 use Rattle.pe_rules.specs.Delegation.{has_delegated}
 use Rattle.pe_rules.specs.Verdicts.{reason_of_state, permission_reason, is_met_by_delegated, activation_reason, reason_denied, met_by, verdict_by, verdict_of}
 use Rattle.pe_laws.specs.HistoryLaws.{HistoryLaws}
+use Rattle.pe_laws.specs.PermissionStateLaws.{state_from}
 use Rattle.pe_engine.specs.declared.row.Row.{Row}
 use Rattle.pe_engine.specs.Deciding.{kept_key, counts_still, is_held, feature_reason}
-use Rattle.pe_engine.specs.Rows.{IsSettled, IsRow}
+use Rattle.pe_engine.specs.Rows.{IsSettled, IsRow, blocks}
+use Rattle.pe_engine.proofs.Governing.{blocks-is}
 
 -- ---- keys
 
@@ -38,22 +40,11 @@ pair-kept T x f (Some kind.Pair) is e = rw (e, is.pair) refl
 
 -- ---- permission states
 
-either : (b : Bool) → (not b || true) ≡ true
-either true = refl
-either false = refl
-
-pub state-insecure : (T : RepliedHistory) (now : ℕ) (x : Row) (f : Feature) → IsSettled T x → x.secure ≡ false → permission_state T now x.doc f ≡ state.Denied
-unfolding permission_state
-state-insecure T now x f is insecure = rw (sym is.secure ∙ insecure) refl
-
-pub state-denied : (T : RepliedHistory) (now d : ℕ) (f : Feature) → is_some (why_denied T f d) ≡ true → permission_state T now d f ≡ state.Denied
-unfolding permission_state
-state-denied T now d f denied = rw (denied, either (is_secure T d)) refl
-
-pub state-stored : (T : RepliedHistory) (now : ℕ) (x : Row) (f : Feature) (stored : Option State) → IsSettled T x → x.secure ≡ true → is_some (why_denied T f x.doc) ≡ false
-    → stored ≡ option_and_then (stored_state T now) (pair_for T x.doc f) → permission_state T now x.doc f ≡ unwrap_or stored state.Prompt
-unfolding permission_state
-state-stored T now x f stored is secure allowed kept = rw (sym is.secure ∙ secure, allowed, sym kept) refl
+-- the state by what the row knows and by what is stored
+pub state-of-row : HistoryLaws → (T : RepliedHistory) (now : ℕ) (x : Row) (f : Feature) (stored : Option State) → IsSettled T x → stored ≡ option_and_then (stored_state T now) (pair_for T x.doc f)
+    → permission_state T now x.doc f ≡ state_from (blocks x f) stored
+state-of-row laws T now x f stored is kept =
+    laws.states.state_by_entry T now x.doc f ∙ ap (λ b. state_from b (option_and_then (stored_state T now) (pair_for T x.doc f))) (sym (blocks-is T x f is)) ∙ ap (state_from (blocks x f)) (sym kept)
 
 -- ---- the rules of a call's feature
 

@@ -28,6 +28,7 @@ pub mod Deciding
 pub mod Firing
 pub mod Settings
 pub mod Stored
+pub mod Storing
 pub mod Uses
 pub mod Queried
 pub mod Prompted

@@ -1,5 +1,5 @@
 -- Replies to plain events, and to events that are refused.
-use Rattle.std.proofs.Common.{◌≡◌, ◌≤◌, [], ◌∷◌, Ok, sym, ◌∙◌, ap, subst, arith}
+use Rattle.std.proofs.Common.{◌≡◌, ℕ, ◌≤◌, [], ◌∷◌, Ok, sym, ◌∙◌, ap, subst, arith}
 use Rattle.std.specs.Global.{Vec}
 use Rattle.std.proofs.lemmas.Bool.Decides.{nat_tests}
 use Rattle.pe_events.specs.declared.answer.Answer.{Answer}
@@ -32,6 +32,10 @@ reply-accepted old new H e reply is = subst (IsReplyBy old new H e reply) (sym i
 
 pub reply-refused : (old new : EngineValue) (H : History) (e : Timed) (why : Cause) (reply : Replies) → IsRefusal old new H e why → reply.answer ≡ answer.Refused why → reply.before.items ≡ [] → reply.after.items ≡ [] → IsReply old new H e reply
 reply-refused old new H e why reply is says before after = subst (IsReplyBy old new H e reply) (sym is.first) (record { says = says; before = before; after = after; kept = is.kept })
+
+-- at the clock the store stands for the steps that were accepted before already
+pub still : (e w : EngineValue) (H : History) (x : Timed) (said : Answer) (now : ℕ) → StandsFor e H → IsAcceptance e w H x said → now ≡ e.clock → IsStore (replied e.duration H) now w.store
+still e w H x said now s is at = subst (λ t. IsStore (replied e.duration H) t w.store) (sym at) (subst (IsStore (replied e.duration H) e.clock) (sym is.store) s.steps.store)
 
 module _ (laws : EngineLaws) where
   -- a plain event that was answered, once the time has passed

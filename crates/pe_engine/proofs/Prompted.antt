@@ -64,7 +64,6 @@ use Rattle.pe_engine.proofs.Accepted.{IsQueues, step_of, documents-within, named
 use Rattle.pe_engine.proofs.Governing.{all-governed}
 use Rattle.pe_engine.proofs.Kept.{kept-silent}
 use Rattle.pe_engine.proofs.Passed.{applied-reply}
-use Rattle.pe_engine.proofs.Stored.{stored-later}
 
 -- ---- the causes
 
@@ -203,11 +202,6 @@ module _ (laws : HistoryLaws) where
       by_test : (b : Bool) → is_prompt T k ≡ b → is_prompt T k ≡ false
       by_test false q = q
       by_test true q = let (least, most) = laws.numbering.prompt_within T k q in absurd (none least (subst (λ n. k ≤ n) (sym s.steps.tree.count) most))
-
-  -- what is stored at a time for a pair, by the store at the clock
-  pub stored-now : (e : EngineValue) (H : History) (now : ℕ) (pair : Pair) → StandsFor e H → e.clock ≤ now → option_and_then (state_at now) (store.entry_of e.store.entries pair) ≡ stored_state (replied e.duration H) now pair
-  stored-now e H now pair s late =
-      stored-later laws (replied e.duration H) now e.store pair (subst (λ t. t ≤ now) s.steps.clock late) (subst (λ t. IsStore (replied e.duration H) t e.store) s.steps.clock s.steps.store)
 
 -- what an answer decides, by its outcome
 module _ (laws : EngineLaws) where

@@ -1,5 +1,7 @@
 -- Permission statuses that are made and dropped.
-use Rattle.std.proofs.Common.{◌≡◌, ℕ, suc, ◌+◌, ◌<◌, ◌≤◌, Bool, true, false, not, nat_le, ◌==◌, List, [], ◌∷◌, ◌++◌, length, Option, Some, None, Ok, IsTrue, is_some, is_none, unwrap_or, option_map, if◌then◌else◌, refl, sym, ◌∙◌, ap, subst, arith, length-append}
+use Rattle.std.proofs.Common.{◌≡◌, ℕ, suc, ◌+◌, ◌<◌, ◌≤◌, Bool, true, false, not, nat_le, ◌==◌, List, [], ◌∷◌, ◌++◌, length, Option, Some, None, Ok, Bor, IsTrue, IsSome, is_some, is_none, unwrap_or, option_map, if◌then◌else◌, refl, sym, ◌∙◌, ap, subst, arith, length-append}
+use Rattle.std.specs.Prelude.{IfSome, IsSomeAnd}
+use Rattle.std.specs.Option.{option_copied}
 use Rattle.std.specs.Global.{Vec}
 use Rattle.std.specs.List.{list_any}
 use Rattle.std.proofs.lemmas.Bool.Decides.{Decides-eqb}
@@ -95,10 +97,6 @@ drop-answer duration T now k = refl
 
 -- ---- the page
 
-node-entry : (o : Option (Entry Row)) (n : Node Row) → option_map node_in o ≡ Some n → (x : Entry Row) × (o ≡ Some x) × (node_in x ≡ n)
-node-entry None n z = cc
-node-entry (Some x) n z = (x, refl, (let i : node_in x ≡ n = cc in i))
-
 -- the document of a row that is found is the one that its frame shows
 shown-entry : (T : RepliedHistory) (ms : List Made) (v : Forest Row) (f : ℕ) (h : Handle) (row : Row) → IsTree T ms v → handle_at ms f ≡ Some h → option_map (λ x. x.doc) (entry_of v.entries h) ≡ Some row → IsShown T f row
 shown-entry T ms v f h row st at found = by_entry (entry_of v.entries h) refl found
@@ -111,6 +109,26 @@ shown-entry T ms v f h row st at found = by_entry (entry_of v.entries h) refl fo
           document = ap (document_in T) (sym frame) ∙ node.document ∙ ap (λ (y : Row). Some y.doc) same;
           row = subst (λ y. IsRow T f y) same (subst (λ g. IsRow T g x.doc) frame node.row);
         }
+
+-- the top frame of the page of a live frame
+pub top-found : (es : List (Entry Row)) (h top : Handle) (x : Entry Row) (o : Option Handle) → entry_of es h ≡ Some x → o ≡ option_map top_of (entry_of es h) → o ≡ Some top → top ≡ top_of x
+top-found es h top x o found is was = let z : Some top ≡ Some (top_of x) = sym was ∙ is ∙ ap (option_map top_of) found in cc
+
+-- it is live
+pub top-live : (es : List (Entry Row)) (h top : Handle) (x : Entry Row) (o : Option (Bor (Node Row))) → entry_of es h ≡ Some x → top ≡ top_of x
+    → IfSome (entry_of es h) (λ e. IsSomeAnd (entry_of es (top_of e)) (λ t. top_of t ≡ top_of e)) → option_copied o ≡ node_of es top → IsSome o
+top-live es h top x o found same lives is = by_node o (ap is_some is ∙ ap (λ k. is_some (node_of es k)) same ∙ by_entry (entry_of es (top_of x)) there)
+  where
+    there : IsSomeAnd (entry_of es (top_of x)) (λ t. top_of t ≡ top_of x)
+    there = subst (λ o. IfSome o (λ e. IsSomeAnd (entry_of es (top_of e)) (λ t. top_of t ≡ top_of e))) found lives
+
+    by_entry : (y : Option (Entry Row)) → IsSomeAnd y (λ t. top_of t ≡ top_of x) → is_some (option_map node_in y) ≡ true
+    by_entry None z = absurd z
+    by_entry (Some y) z = refl
+
+    by_node : (n : Option (Bor (Node Row))) → is_some (option_copied n) ≡ true → IsSome n
+    by_node None z = z
+    by_node (Some n) z = refl
 
 module _ (laws : HistoryLaws) where
   -- the page of a document that a frame shows is live
@@ -126,18 +144,17 @@ module _ (laws : HistoryLaws) where
       ap (λ t. is_some (document_in T (frame_of T t))) (top-is T d c cs is) ∙ ap is_some (laws.current.shown_in_frame duration H c regular above)
 
   -- the frame of the topmost handle above a live frame is that of its page
-  pub page-found : (e : EngineValue) (H : History) (f : ℕ) (h : Handle) (n : Node Row) → StandsFor e H → handle_at e.made f ≡ Some h → node_of e.frames.entries h ≡ Some n
-      → (m : Node Row) × (node_of e.frames.entries n.top ≡ Some m) × (page_of_frame (replied e.duration H) f ≡ Some m.frame)
-  page-found e H f h n s at found =
+  pub page-found : (e : EngineValue) (H : History) (f : ℕ) (h : Handle) (x : Entry Row) → StandsFor e H → handle_at e.made f ≡ Some h → entry_of e.frames.entries h ≡ Some x
+      → (m : Node Row) × (node_of e.frames.entries (top_of x) ≡ Some m) × (page_of_frame (replied e.duration H) f ≡ Some m.frame)
+  page-found e H f h x s at is =
       let T = replied e.duration H in
-      let (x, is, node_is) = node-entry (entry_of e.frames.entries h) n found in
       let (frame, node) = node-at T e.made e.frames f h x s.steps.tree at is in
       let g = page T x.doc.doc in
       let top : handle_at e.made g ≡ Some (top_of x) = page-at T e.made x node in
       let (y, there) = some-of (entry_of e.frames.entries (top_of x)) (live-at laws T e.made e.frames g (top_of x) s.steps.tree top ∙ page-live e.duration H e.made x s.regular node) in
       let (same, other) = node-at T e.made e.frames g (top_of x) y s.steps.tree top there in (
         node_in y,
-        ap (λ (m : Node Row). node_of e.frames.entries m.top) (sym node_is) ∙ ap (option_map node_in) there,
+        ap (option_map node_in) there,
         page-of T f x.doc.doc (ap (document_in T) (sym frame) ∙ node.document) ∙ ap Some (sym same),
       )
 
@@ -249,8 +266,12 @@ module _ (laws : EngineLaws) where
       stored : IsStore T now p.store
       stored = subst (λ d. IsStore (replied d H) now p.store) (ap (λ (v : EngineValue). v.duration) p_is) passed.stands.steps.store
 
+      clocked : n.clock ≡ now
+      clocked = ap (λ (v : EngineValue). v.clock) n_is
+
       says : answer.StatusMade number state ≡ answer_of e.duration T now (event.Query f name)
-      says = ap (answer.StatusMade number) (has.state_is T now shown.row.settled (subst (IsStore T now) (sym (ap (λ (v : EngineValue). v.store) n_is)) stored))
+      says = ap (answer.StatusMade number) (has.state_is T shown.row.settled (subst (λ t. IsStore T t n.store) (sym clocked) (subst (IsStore T now) (sym (ap (λ (v : EngineValue). v.store) n_is)) stored)))
+          ∙ ap (λ t. answer.StatusMade number (permission_state T t has.row.doc feature)) clocked
           ∙ ap (λ k. answer.StatusMade k (permission_state T now has.row.doc feature)) numbered
           ∙ sym (query-answer e.duration T now f has.row.doc name feature shown.document named)
 

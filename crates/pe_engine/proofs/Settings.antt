@@ -1,5 +1,5 @@
 -- What a setting is answered, and what the engine stands for after it.
-use Rattle.std.proofs.Common.{◌≡◌, ℕ, ◌+◌, Bool, true, false, not, ◌&&◌, ◌||◌, nat_le, nat_lt, List, [], ◌∷◌, ◌++◌, length, Option, Some, None, Result, Ok, Err, IsTrue, is_some, option_map, option_and_then, unwrap_or, Bor, refl, sym, ◌∙◌, ap, subst, arith}
+use Rattle.std.proofs.Common.{◌≡◌, ℕ, ◌+◌, Bool, true, false, not, ◌&&◌, ◌||◌, nat_le, nat_lt, List, [], ◌∷◌, ◌++◌, length, Option, Some, None, Result, Ok, Err, IsTrue, is_some, is_none, option_map, option_and_then, unwrap_or, Bor, refl, sym, ◌∙◌, ap, subst, arith}
 use Rattle.std.specs.Prelude.{is_err, OnOk}
 use Rattle.std.specs.Option.{option_or, option_copied}
 use Rattle.std.specs.Global.{Vec}
@@ -112,14 +112,21 @@ pub some-copied : {A : Type 0} (o : Option (Bor A)) → is_some (option_copied o
 some-copied None = refl
 some-copied (Some x) = refl
 
+pub none-some : {A : Type 0} (o : Option A) → is_none o ≡ not (is_some o)
+none-some None = refl
+none-some (Some x) = refl
+
+pub and-true : (b : Bool) → (b && true) ≡ b
+and-true true = refl
+and-true false = refl
+
+pub and-false : (b : Bool) → (b && false) ≡ false
+and-false true = refl
+and-false false = refl
+
 -- a pair is its parts
 pub paired : (pair : Pair) → (pair.0, pair.1) ≡ pair
 paired (feature, key) = refl
-
--- what is no error
-pub ok-of : {A E : Type 0} (P : Type 0) (r : Result A E) → is_err r ≡ false → OnOk r P → P
-ok-of P (Ok x) h p = p
-ok-of P (Err x) h p = cc
 
 -- ---- the answer
 

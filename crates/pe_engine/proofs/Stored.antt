@@ -24,10 +24,11 @@ use Rattle.pe_rules.specs.Replies.{replied, step_answer, is_regular, accepts, ac
 use Rattle.pe_laws.specs.CurrentLaws.{left_in}
 use Rattle.pe_laws.specs.HistoryLaws.{HistoryLaws}
 use Rattle.pe_laws.specs.SettingsLaws.{in_force}
+use Rattle.pe_changes.specs.Gathered.{outlasts}
 use Rattle.pe_changes.specs.Parts.{entry_by, entry_in, IsStore}
 use Rattle.pe_engine.specs.Objects.{handle_at}
 use Rattle.pe_engine.specs.StandsFor.{EngineValue, StandsFor}
-use Rattle.pe_engine.specs.Using.{outlasts, state_at, verdict_in}
+use Rattle.pe_engine.specs.Using.{state_at, verdict_in}
 use Rattle.pe_engine.proofs.Accepted.{step_of}
 use Rattle.pe_engine.proofs.Look.{live-at, no-handle}
 
@@ -83,26 +84,20 @@ unmapped-some g None y h = cc
 unmapped-some g (Some x) y h = (x, refl)
 
 module _ (laws : HistoryLaws) where
-  -- what is stored for a pair at a time is what its entry at the clock gives then
-  pub stored-later : (T : RepliedHistory) (now : ℕ) (value : StoreValue) (p : Pair) → clock T ≤ now → IsStore T (clock T) value
+  -- what is stored for a pair at a time is what its entry at an earlier time gives then
+  pub stored-later : (T : RepliedHistory) (before now : ℕ) (value : StoreValue) (p : Pair) → before ≤ now → IsStore T before value
       → option_and_then (state_at now) (store.entry_of value.entries p) ≡ stored_state T now p
   unfolding entry_in
-  stored-later T now value p late is =
+  stored-later T before now value p late is =
       ap (option_and_then (state_at now)) (is.found p)
-      ∙ by_force (in_force T (clock T) p) refl
-      ∙ ap (option_map (λ (x : Setting). x.state)) (sym (laws.settings.in_force_later T (clock T) now p late))
+      ∙ by_force (in_force T before p) refl
+      ∙ ap (option_map (λ (x : Setting). x.state)) (sym (laws.settings.in_force_later T before now p late))
       ∙ sym (laws.settings.stored_in_force T now p)
     where
-      by_force : (o : Option Setting) → in_force T (clock T) p ≡ o
+      by_force : (o : Option Setting) → in_force T before p ≡ o
           → option_and_then (state_at now) (option_map entry_by o) ≡ option_map (λ (x : Setting). x.state) (option_and_then (λ x. some_if (holds T now x.life) x) o)
       by_force None e = refl
-      by_force (Some x) e = ap (λ b. some_if b x.state) (sym (life-holds T (clock T) now x.life (force-holds T (clock T) p x e))) ∙ state-mapped (holds T now x.life) x
-
-  -- so for a document and a feature, by the key that is kept
-  pub stored-under : (T : RepliedHistory) (now d : ℕ) (value : StoreValue) (f : Feature) (key : Option Key) → clock T ≤ now → IsStore T (clock T) value → pair_for T d f ≡ option_map (λ k. (f, k)) key
-      → option_and_then (λ k. option_and_then (state_at now) (store.entry_of value.entries (f, k))) key ≡ option_and_then (stored_state T now) (pair_for T d f)
-  stored-under T now d value f None late is paired = sym (ap (option_and_then (stored_state T now)) paired)
-  stored-under T now d value f (Some k) late is paired = stored-later T now value (f, k) late is ∙ sym (ap (option_and_then (stored_state T now)) paired)
+      by_force (Some x) e = ap (λ b. some_if b x.state) (sym (life-holds T before now x.life (force-holds T before p x e))) ∙ state-mapped (holds T now x.life) x
 
   -- ---- frames
 

@@ -1,9 +1,9 @@
 -- Uses of calls: their causes, their verdicts, and what they leave of the tree.
-use Rattle.std.proofs.Common.{◌≡◌, ℕ, Bool, true, false, not, ◌&&◌, ◌||◌, List, [], ◌∷◌, ◌++◌, Option, Some, None, unwrap_or, option_map, option_and_then, refl, sym, ◌∙◌, ap, subst}
+use Rattle.std.proofs.Common.{◌≡◌, ℕ, Bool, true, false, not, ◌&&◌, ◌||◌, List, [], ◌∷◌, ◌++◌, Option, Some, None, unwrap_or, option_map, option_and_then, if◌then◌else◌, refl, sym, ◌∙◌, ap, subst}
 use Rattle.std.specs.Prelude.{IfSome}
 use Rattle.std.specs.Option.{option_or}
 use Rattle.pe_arena.specs.declared.handle.Handle.{Handle}
-use Rattle.pe_frames.specs.Forest.{Entry, Forest, entry_of, top_of, with_doc}
+use Rattle.pe_frames.specs.Forest.{Entry, Forest, entry_of, page_size, top_of, with_doc}
 use Rattle.pe_frames.specs.Walk.{changed_page}
 use Rattle.pe_features.specs.declared.call.Call.{Call}
 use Rattle.pe_features.specs.declared.call.Gate.{Gate}
@@ -24,10 +24,10 @@ use Rattle.pe_rules.specs.History.{Judged, RepliedHistory, History, some_if}
 use Rattle.pe_rules.specs.Current.{document_in}
 use Rattle.pe_rules.specs.Origins.{is_secure}
 use Rattle.pe_rules.specs.Denials.{why_denied}
-use Rattle.pe_rules.specs.Activation.{has_sticky, has_transient, is_consuming_call}
+use Rattle.pe_rules.specs.Activation.{has_sticky, has_transient, is_by_transient, is_consuming_call}
 use Rattle.pe_rules.specs.Delegation.{has_delegated}
 use Rattle.pe_rules.specs.Settings.{setting_named, setting_by}
-use Rattle.pe_rules.specs.Causes.{has_bad_url, has_bad_feature, has_bad_call, has_bad_capability, names_other_page, exceeds_pages, exceeds_depth, exceeds_frames, exceeds_statuses, exceeds_pending, exceeds_store}
+use Rattle.pe_rules.specs.Causes.{count_in_page, live_frames, has_bad_url, has_bad_feature, has_bad_call, has_bad_capability, names_other_page, exceeds_pages, exceeds_depth, exceeds_frames, exceeds_statuses, exceeds_pending, exceeds_store}
 use Rattle.pe_rules.specs.Verdicts.{permission_reason, is_met_by_delegated, activation_reason, reason_denied, met_by, verdict_by, verdict_of}
 use Rattle.pe_rules.specs.Replies.{replied, answer_of, answer_of_verdict, verdict_replied, step_answer}
 use Rattle.pe_laws.specs.HistoryLaws.{HistoryLaws}
@@ -35,6 +35,7 @@ use Rattle.pe_engine.specs.declared.row.Row.{Row}
 use Rattle.pe_engine.specs.declared.engine.Made.{Made}
 use Rattle.pe_engine.specs.declared.engine.Made.TheVariants as made
 use Rattle.pe_engine.specs.Causes.{other_cause}
+use Rattle.pe_engine.specs.Costs.{taken_of, consumed_by_use}
 use Rattle.pe_engine.specs.Objects.{handle_at}
 use Rattle.pe_engine.specs.Replying.{timed}
 use Rattle.pe_engine.specs.Rows.{with_delivery}
@@ -45,6 +46,7 @@ use Rattle.pe_engine.proofs.Accepted.{step_of}
 use Rattle.pe_engine.proofs.Consumed.{kept-use-consumed, kept-use-silent}
 use Rattle.pe_engine.proofs.Delivered.{kept-spent}
 use Rattle.pe_engine.proofs.Look.{node-at}
+use Rattle.pe_engine.proofs.VerbAnswers.{limits-at}
 
 -- ---- causes and answers
 
@@ -111,6 +113,30 @@ delegated-capability duration T now d call is =
     (activation_reason gate.need (has_sticky T d) (has_transient duration T now d) (is_met_by_delegated duration T now d gate)) none in
     of-capability (has_delegated duration T now d) gate.capability (needs-held gate.need (has_sticky T d) (has_transient duration T now d) (is_met_by_delegated duration T now d gate) needs late unmet)
 
+-- ---- how many documents it consumes the user activation of
+
+consuming-is : (name : List ℕ) (call : Call) (b : Bool) → call_named name ≡ Some call → (gate_of call).consumes ≡ b → is_consuming_call name ≡ b
+consuming-is name call b named is = rw (named, is) refl
+
+pub if-some : {A : Type 0} (o : Option A) (x : A) (P : A → Type 0) → o ≡ Some x → IfSome o P → P x
+if-some o x P is holds = subst (λ o. IfSome o P) is holds
+
+taken-as : (gate : Gate) (v : Verdict) (consuming : Bool) (n : ℕ) → consuming ≡ gate.consumes → taken_of gate v n ≡ (if is_by_transient (Judged v) && consuming then n else 0)
+taken-as gate (verdict.Allowed via.Transient) consuming n e = ap (λ b. if b then n else 0) (sym e)
+taken-as gate (verdict.Allowed via.Delegated) consuming n e = refl
+taken-as gate (verdict.Allowed via.Free) consuming n e = refl
+taken-as gate (verdict.Denied why) consuming n e = refl
+
+pub taken-documents : (e : EngineValue) (H : History) (now f d : ℕ) (name : List ℕ) (call : Call) (h : Handle) (x : Entry Row) (v : Verdict) → StandsFor e H → handle_at e.made f ≡ Some h → entry_of e.frames.entries h ≡ Some x
+    → document_in (replied e.duration H) f ≡ Some d → call_named name ≡ Some call → v ≡ verdict_of e.duration (replied e.duration H) now d call
+    → taken_of (gate_of call) v (page_size e.frames.entries (top_of x)) ≡ consumed_by_use e.duration (replied e.duration H) now f name
+taken-documents e H now f d name call h x v s at here shown named is =
+    let T = replied e.duration H in
+    let n = count_in_page T f (live_frames T) in
+    ap (taken_of (gate_of call) v) (limits-at e H f h x s at here).1
+    ∙ taken-as (gate_of call) v (is_consuming_call name) n (consuming-is name call (gate_of call).consumes named refl)
+    ∙ ap (λ item. if is_by_transient item && is_consuming_call name then n else 0) (sym (use-told e.duration T now f d name call shown named ∙ ap Judged (sym is)))
+
 -- ---- what a use leaves of the tree
 
 made-consumed : (b : Bool) (h : Handle) (old new : Forest Row) → IsConsumedIf b h old new → new.made ≡ old.made
@@ -129,9 +155,6 @@ made-taken gate (verdict.Allowed via.Transient) h x old new here taken = made-co
 made-taken gate (verdict.Allowed via.Delegated) h x old new here taken = made-spent gate.capability h x old new here taken
 made-taken gate (verdict.Allowed via.Free) h x old new here taken = ap (λ (v : Forest Row). v.made) taken
 made-taken gate (verdict.Denied why) h x old new here taken = ap (λ (v : Forest Row). v.made) taken
-
-consuming-is : (name : List ℕ) (call : Call) (b : Bool) → call_named name ≡ Some call → (gate_of call).consumes ≡ b → is_consuming_call name ≡ b
-consuming-is name call b named is = rw (named, is) refl
 
 module _ (laws : HistoryLaws) where
   kept-transient : (now F : ℕ) (name : List ℕ) (call : Call) (T : RepliedHistory) (ms : List Made) (old new : Forest Row) (h : Handle) (x : Entry Row) → call_named name ≡ Some call

@@ -16,6 +16,7 @@ pub mod Leaving
 pub mod Deciding
 pub mod Prompting
 pub mod Using
+pub mod Costs
 pub mod Registering
 pub mod Posting
 pub mod Isolation

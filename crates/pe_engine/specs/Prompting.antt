@@ -1,6 +1,6 @@
 -- What a request asks for, and what an answer to a prompt does.
 -- Permissions, "request permission to use"; the embargo is this project's own.
-use Rattle.std.specs.Prelude.{◌≡◌, ℕ, List, [], ◌∷◌, ◌++◌, ◌≢◌, Option, Some, None, IfSome, option_map}
+use Rattle.std.specs.Prelude.{◌≡◌, ℕ, false, List, [], ◌∷◌, ◌++◌, ◌≢◌, Option, Some, None, IfSome, option_map}
 use Rattle.pe_base.specs.declared.state.State.{State}
 use Rattle.pe_base.specs.declared.state.State.TheVariants as state
 use Rattle.pe_arena.specs.declared.handle.DocRef.{DocRef}
@@ -8,6 +8,7 @@ use Rattle.pe_features.specs.declared.feature.Feature.{Feature}
 use Rattle.pe_store.specs.declared.key.Key.{Key}
 use Rattle.pe_store.specs.declared.key.Life.{Life}
 use Rattle.pe_store.specs.declared.key.Life.TheVariants as life
+use Rattle.pe_store.specs.Entries.{StoreValue, IsFull, completes_embargo}
 use Rattle.pe_store.specs.Pairs.{Pair}
 use Rattle.pe_prompts.specs.declared.queue.Prompt.{Prompt}
 use Rattle.pe_prompts.specs.Queues.{pending_of, asked_of, HasAsked}
@@ -57,3 +58,8 @@ pub record IsDecided (T : RepliedHistory) (now k : ℕ) (out : Outcome) (given :
   pub pair_is : prompt_pair T k ≡ Some pair
   pub setting : setting_by now (event.Answered k out given) T ≡ option_map (setting_for pair) set
   pub lasts : IfSome set (λ x. x.1 ≢ life.Until 0)
+
+-- the store has its place for what an answer decided for the pair: room for the setting, and a dismissal is no embargo
+abbrev pub FitsStore : StoreValue → Pair → Option (State × Life) → Type 0
+FitsStore store pair (Some x) = IsFull store.entries pair → ⊥
+FitsStore store pair None = completes_embargo store pair ≡ false

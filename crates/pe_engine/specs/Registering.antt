@@ -19,7 +19,7 @@ use Rattle.pe_engine.specs.StandsFor.{EngineValue}
 abbrev pub status_of_document : ℕ → ℕ → Handle → Row → Feature → Key → Registered
 status_of_document number page h x feature key = record { no = number; page = page; doc = record { at = h; doc = x.doc }; feature = feature; key = key }
 
--- the status was registered for the document that the frame of the handle shows, under the pair of the feature for it, and the state is that of its permission
+-- the status was registered for the document that the frame of the handle shows, under the pair of the feature for it, and the state is that of its permission at the clock
 pub record HasRegistered (old new : EngineValue) (number page : ℕ) (h : Handle) (feature : Feature) (state : State) : Type 0 where
   pub row : Row
   pub key : Key
@@ -28,4 +28,4 @@ pub record HasRegistered (old new : EngineValue) (number page : ℕ) (h : Handle
   pub rest : new ≡ record old { statuses = new.statuses }
   pub live : new.statuses.live ≡ old.statuses.live ++ status_of_document number page h row feature key ∷ []
   pub given : new.statuses.given ≡ old.statuses.given ++ number ∷ []
-  pub state_is : (T : RepliedHistory) (now : ℕ) → IsSettled T row → IsStore T now old.store → state ≡ permission_state T now row.doc feature
+  pub state_is : (T : RepliedHistory) → IsSettled T row → IsStore T old.clock old.store → state ≡ permission_state T old.clock row.doc feature

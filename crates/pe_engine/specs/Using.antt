@@ -1,6 +1,6 @@
 -- What a call is judged by, and what its use takes.
 -- Permissions, "permission store entry", "lifetime"; HTML Standard, "consume user activation"; Capability Delegation, "delegated capability".
-use Rattle.std.specs.Prelude.{◌≡◌, ℕ, Bool, true, false, nat_lt, Option, Some, None, IfSome, option_map}
+use Rattle.std.specs.Prelude.{◌≡◌, ℕ, Bool, true, false, Option, Some, None, IfSome, option_map}
 use Rattle.pe_base.specs.declared.state.State.{State}
 use Rattle.pe_arena.specs.declared.handle.Handle.{Handle}
 use Rattle.pe_frames.specs.Forest.{Forest, entry_of, top_of, with_doc}
@@ -10,23 +10,17 @@ use Rattle.pe_features.specs.declared.call.Gate.{Gate}
 use Rattle.pe_features.specs.declared.capability.Capability.{Capability}
 use Rattle.pe_activation.specs.Stamps.{consumed}
 use Rattle.pe_store.specs.declared.entry.Entry.{Entry}
-use Rattle.pe_store.specs.declared.key.Life.{Life}
-use Rattle.pe_store.specs.declared.key.Life.TheVariants as life
 use Rattle.pe_events.specs.declared.reason.Verdict.{Verdict}
 use Rattle.pe_events.specs.declared.reason.Verdict.TheVariants as verdict
 use Rattle.pe_events.specs.declared.reason.Via.TheVariants as via
 use Rattle.pe_rules.specs.History.{RepliedHistory, some_if, clock}
 use Rattle.pe_rules.specs.Current.{document_in}
 use Rattle.pe_rules.specs.Verdicts.{verdict_of}
+use Rattle.pe_changes.specs.Gathered.{outlasts}
 use Rattle.pe_engine.specs.declared.row.Row.{Row}
 use Rattle.pe_engine.specs.Rows.{with_delivery}
 
 -- ---- what is stored
-
--- the life of an entry of the store holds at a time; one that names a document stands in the store only while this is current
-abbrev pub outlasts : ℕ → Life → Bool
-outlasts now (life.Until end) = nat_lt now end
-outlasts now other = true
 
 -- the state that an entry of the store gives at a time
 abbrev pub state_at : ℕ → Entry → Option State

@@ -3,6 +3,7 @@ ghost use Rattle.std.specs.Prelude.{◌≡◌, ◌≤◌, IfOk, OnOk};
 ghost use Rattle.pe_rules.specs.History.{RepliedHistory, History, clock};
 ghost use Rattle.pe_rules.specs.Changes.{changes_before};
 ghost use Rattle.pe_changes.specs.Parts.{IsStore, IsStatuses, AreGoverned};
+ghost use Rattle.pe_changes.specs.StoreSteps.{IsLapsed};
 ghost use Rattle.pe_engine.specs.Replying.{HasPassed};
 ghost use Rattle.pe_engine.specs.Rows.{blocks};
 ghost use Rattle.pe_engine.specs.StandsFor.{StandsFor};
@@ -27,6 +28,8 @@ impl Engine {
         ensures changes { (T : RepliedHistory) → clock T ≤ now → IsStore T (clock T) self.old.store → IsStatuses T self.old.statuses
             → AreGoverned T (λ x. x.doc) blocks self.old.frames.entries self.old.statuses.live → IfOk result (λ changes. changes.items ≡ changes_before T now) }
         ensures stands { (T : RepliedHistory) → clock T ≤ now → IsStore T (clock T) self.old.store → OnOk result (IsStore T now self.new.store) }
+        ensures lapsed { OnOk result (IsLapsed now self.old.store self.new.store) }
+        ensures idle { (T : RepliedHistory) → IsStore T now self.old.store → steps.new ≡ steps.old }
     {
         lapse(
             self.alloc,
@@ -47,6 +50,7 @@ impl Engine {
     ) -> Result<Vec<Change>, AllocError>
         ensures rest { OnOk result (self.new ≡ record self.old { store = self.new.store }) }
         ensures passed { (H : History) → StandsFor self.old H → self.old.clock ≤ now → IfOk result (HasPassed self.old self.new H now) }
+        ensures lapsed { OnOk result (IsLapsed now self.old.store self.new.store) }
     {
         engine_laws();
         self.lapse(now, steps)

@@ -1,5 +1,5 @@
 //! One event after another.
-ghost use Rattle.std.specs.Prelude.{◌≡◌, ℕ, List, true, IfOk, IsTrue, OnOk, OnErr, [], ◌∷◌};
+ghost use Rattle.std.specs.Prelude.{◌≡◌, ◌+◌, ◌*◌, ◌≤◌, ℕ, List, true, IfOk, IsTrue, OnOk, OnErr, [], ◌∷◌};
 ghost use Rattle.pe_base.specs.declared.denial.Denial.{Denial};
 ghost use Rattle.pe_events.specs.declared.answer.Answer.TheVariants as answer;
 ghost use Rattle.pe_events.specs.declared.event.Event.TheVariants as event;
@@ -8,6 +8,7 @@ ghost use Rattle.pe_rules.specs.Muting.{muted};
 ghost use Rattle.pe_rules.specs.Replies.{is_regular};
 ghost use Rattle.pe_isolation.specs.PageEvents.{is_of_page};
 ghost use Rattle.pe_engine.specs.Isolation.{IsMutedReply};
+ghost use Rattle.pe_engine.specs.Costs.{consumed_by_use, IsWithin};
 ghost use Rattle.pe_engine.specs.Promises.{IsAllowedIn, IsDeniedIn, AreOfLive};
 ghost use Rattle.pe_engine.specs.Replying.{timed, steps_of, is_plain, IsAnswer, IsReplied};
 ghost use Rattle.pe_engine.specs.Stepping.{IsReply};
@@ -34,7 +35,8 @@ impl Engine {
         steps: &mut Steps<L>,
     ) -> Result<Answer, Refusal>
         requires plain { IsTrue (is_plain stamped.now.event) }
-        ensures { (H : History) → StandsFor self.old H → IsAnswer self.old self.new H (timed stamped.now.time stamped.now.event) result }
+        ensures answered { (H : History) → StandsFor self.old H → IsAnswer self.old self.new H (timed stamped.now.time stamped.now.event) result }
+        ensures cost { (H : History) → StandsFor self.old H → IsWithin self.old.duration (steps_of self.old H) stamped.now.time stamped.now.event steps.old steps.new }
     {
         let now = Millis::of(stamped.time);
         match &stamped.event {
@@ -92,7 +94,8 @@ impl Engine {
         steps: &mut Steps<L>,
     ) -> Result<Replies, Refusal>
         requires plain { IsTrue (is_plain stamped.now.event) }
-        ensures { (H : History) → StandsFor self.old H → IsReplied self.old self.new H (timed stamped.now.time stamped.now.event) result }
+        ensures replied { (H : History) → StandsFor self.old H → IsReplied self.old self.new H (timed stamped.now.time stamped.now.event) result }
+        ensures cost { (H : History) → StandsFor self.old H → stamped.now.time ≡ self.old.clock → IsWithin self.old.duration (steps_of self.old H) stamped.now.time stamped.now.event steps.old steps.new }
     {
         engine_laws();
         let answer = match self.answer(stamped, steps) {
@@ -113,7 +116,8 @@ impl Engine {
         stamped: &Stamped<'_>,
         steps: &mut Steps<L>,
     ) -> Result<Replies, Refusal>
-        ensures { (H : History) → StandsFor self.old H → IsReplied self.old self.new H (timed stamped.now.time stamped.now.event) result }
+        ensures replied { (H : History) → StandsFor self.old H → IsReplied self.old self.new H (timed stamped.now.time stamped.now.event) result }
+        ensures cost { (H : History) → StandsFor self.old H → stamped.now.time ≡ self.old.clock → IsWithin self.old.duration (steps_of self.old H) stamped.now.time stamped.now.event steps.old steps.new }
     {
         let now = Millis::of(stamped.time);
         match &stamped.event {
@@ -183,6 +187,7 @@ impl Engine {
         ensures replied { (H : History) → StandsFor self.old H → IfOk result (IsReply self.old self.new H (timed stamped.now.time stamped.now.event)) }
         ensures once_failed { self.old.failed ≡ true → OnOk result ⊥ × (self.new ≡ self.old) }
         ensures fails { OnErr result (self.new.failed ≡ true) }
+        ensures cost { (H : History) → StandsFor self.old H → stamped.now.time ≡ self.old.clock → IsWithin self.old.duration (steps_of self.old H) stamped.now.time stamped.now.event steps.old steps.new }
     {
         if self.failed {
             return Err(AllocError);
@@ -207,6 +212,13 @@ impl Engine {
         ensures replied { (H : History) → StandsFor self.old H → IfOk result (IsReply self.old self.new H (timed stamped.now.time stamped.now.event)) }
         ensures once_failed { self.old.failed ≡ true → OnOk result ⊥ × (self.new ≡ self.old) }
         ensures fails { OnErr result (self.new.failed ≡ true) }
+
+        // Where no time passes, `policy` costs one step; `use` costs three, and two more for each document
+        // whose user activation it consumes.
+        ensures policy_cost { (H : History) (frame : ℕ) (name : List ℕ) → StandsFor self.old H → stamped.now.time ≡ self.old.clock → stamped.now.event ≡ event.PolicyOf frame name
+            → steps.new ≤ steps.old + 1 }
+        ensures use_cost { (H : History) (frame : ℕ) (name : List ℕ) → StandsFor self.old H → stamped.now.time ≡ self.old.clock → stamped.now.event ≡ event.UseCall frame name
+            → steps.new ≤ steps.old + 3 + 2 * consumed_by_use self.old.duration (steps_of self.old H) stamped.now.time frame name }
 
         // Each change names a status that is live: one that the time brings before the event, and one that
         // the event brings before it and, where it is accepted, after it.

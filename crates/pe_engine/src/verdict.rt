@@ -16,6 +16,7 @@ use crate::row::{Delivered, Row};
 use crate::verbs::policy::why_denied;
 use pe_activation::{sticky, transient};
 use pe_base::{Millis, State};
+use pe_changes::Governed;
 use pe_delegation::active;
 use pe_events::{Reason, Verdict, Via};
 use pe_features::{Capability, Feature, Gate, KeyKind, Need};
@@ -41,10 +42,8 @@ pub(crate) fn permission_state(row: &Row, feature: Feature, stored: Option<State
     ensures { (T : RepliedHistory) (now : ℕ) → IsSettled T row.now → stored ≡ option_and_then (stored_state T now) (pair_for T row.now.doc feature)
         → result ≡ permission_state T now row.now.doc feature }
 {
-    if !row.secure {
-        return State::Denied;
-    }
-    if why_denied(&row.policy, feature).is_some() {
+    history_laws();
+    if row.is_blocked(feature) {
         return State::Denied;
     }
     stored.unwrap_or(State::Prompt)

@@ -1,5 +1,5 @@
 //! `policy` and `features`: what the policy of a document says.
-ghost use Rattle.std.specs.Prelude.{◌≡◌, IfSome, IfNone, Some, true, false, map, ℕ};
+ghost use Rattle.std.specs.Prelude.{◌≡◌, ◌+◌, ◌≤◌, IfSome, IfNone, Some, true, false, map, ℕ};
 ghost use Rattle.pe_allowlist.specs.Lists.{is_policy_controlled};
 ghost use Rattle.pe_arena.specs.declared.handle.Handle.{Handle};
 ghost use Rattle.pe_events.specs.declared.event.Event.TheVariants as event;
@@ -95,7 +95,8 @@ impl Engine {
         name: &[u8],
         steps: &mut Steps<L>,
     ) -> Result<Answer, Refusal>
-        ensures { (H : History) → StandsFor self.old H → IsAnswer self.old self.new H (timed now (event.PolicyOf frame name.now)) result }
+        ensures answered { (H : History) → StandsFor self.old H → IsAnswer self.old self.new H (timed now (event.PolicyOf frame name.now)) result }
+        ensures cost { steps.new ≤ steps.old + 1 }
     {
         engine_laws();
         let (_, h) = self.next_in(now, frame)?;

@@ -1,8 +1,9 @@
 //! `request` and `answer`: prompts for a permission.
-ghost use Rattle.std.specs.Prelude.{◌≡◌, ◌+◌, ◌<◌, ◌≤◌, ◌++◌, ◌∷◌, ◌&&◌, [], ℕ, List, nat_le, Some, None, IfOk, IfErr, IsSome, IsTrue, OnOk, not, is_some, is_none, length, option_map};
+ghost use Rattle.std.specs.Prelude.{◌≡◌, ◌+◌, ◌<◌, ◌≤◌, ◌++◌, ◌∷◌, ◌&&◌, [], ℕ, List, nat_le, false, Some, None, IfOk, IfErr, IsSome, IsTrue, OnOk, not, is_some, is_none, length, option_map};
 ghost use Rattle.pe_base.specs.declared.limits.TheConstants.{EVENT_LIMIT, PENDING_LIMIT, STORE_LIMIT};
 ghost use Rattle.pe_base.specs.declared.state.State.{State};
 ghost use Rattle.pe_store.specs.declared.key.Life.{Life};
+ghost use Rattle.pe_store.specs.Entries.{StoreValue, IsFull, completes_embargo};
 ghost use Rattle.pe_events.specs.declared.answer.Answer.TheVariants as answer;
 ghost use Rattle.pe_events.specs.declared.event.Event.TheVariants as event;
 ghost use Rattle.pe_engine.specs.declared.engine.Made.TheVariants as made;
@@ -13,7 +14,7 @@ ghost use Rattle.pe_prompts.specs.Pending.{pair_of};
 ghost use Rattle.pe_prompts.specs.Queues.{pending, pending_of, prompt_at};
 ghost use Rattle.pe_requests.specs.PromptSteps.{IsAsking, answer_of_asked};
 ghost use Rattle.pe_changes.specs.Parts.{IsStore, IsStatuses, AreGoverned};
-ghost use Rattle.pe_changes.specs.StoreSteps.{IsSet, IsDismissed};
+ghost use Rattle.pe_changes.specs.StoreSteps.{IsSet, IsDismissed, IsLapsed};
 ghost use Rattle.pe_rules.specs.Causes.{entries, is_prompt_state};
 ghost use Rattle.pe_rules.specs.Changes.{changes_after};
 ghost use Rattle.pe_rules.specs.Current.{document_in};
@@ -23,14 +24,14 @@ ghost use Rattle.pe_rules.specs.Replies.{state_replied};
 ghost use Rattle.pe_rules.specs.Settings.{life_of_answer, is_undecided, embargo_for, stored_state, setting_by, holds, has_entry};
 ghost use Rattle.pe_engine.specs.Causes.{named_cause};
 ghost use Rattle.pe_engine.specs.Objects.{handle_at};
-ghost use Rattle.pe_engine.specs.Prompting.{made_by_request, setting_for, HasPrompted, HasAnswered, IsDecided};
+ghost use Rattle.pe_engine.specs.Prompting.{made_by_request, setting_for, HasPrompted, HasAnswered, IsDecided, FitsStore};
 ghost use Rattle.pe_engine.specs.Replying.{steps_of, timed, IsChecked, IsReplied};
 ghost use Rattle.pe_engine.specs.Rows.{blocks};
 ghost use Rattle.pe_engine.specs.StandsFor.{StandsFor};
 ghost use Rattle.pe_events.specs.declared.event.EventLife.{EventLife};
 ghost use Rattle.pe_events.specs.declared.event.Outcome.{Outcome};
 
-use crate::decision::state_at;
+use crate::decision::stored_at;
 use crate::engine::{Engine, Made};
 use crate::laws::engine_laws;
 use crate::refusal::Refusal;
@@ -41,11 +42,10 @@ use pe_arena::{DocRef, Handle};
 use pe_base::{
     DocNo, EMBARGO_DISMISSALS, EMBARGO_SPAN, FrameNo, Millis, PENDING_LIMIT, PromptNo, State, Steps,
 };
-use pe_changes::changes_of_setting;
 use pe_events::{Answer, Cause, Change, EventLife, Outcome};
 use pe_features::Feature;
 use pe_prompts::{AnswerFault, Asked, Prompt};
-use pe_store::{Key, Life};
+use pe_store::{Key, Life, StoreFault};
 use std::alloc::AllocError;
 use std::sync::ledger::Ledger;
 
@@ -128,24 +128,6 @@ fn is_undecided(stored: Option<State>) -> bool
 }
 
 impl Engine {
-    /// What is stored for a pair at a time that is not before the clock. The store is as it was at the
-    /// clock: entries whose life ended since may stand there.
-    fn stored_at<L: Ledger>(
-        &self,
-        feature: Feature,
-        key: &Key,
-        now: Millis,
-        steps: &mut Steps<L>,
-    ) -> Option<State>
-        ensures { (H : History) → StandsFor self.now H → self.now.clock ≤ now → result ≡ stored_state (steps_of self.now H) now (feature, key.now) }
-    {
-        engine_laws();
-        let entry = self.store.get(feature, key, steps)?;
-        state_at(entry, now)
-    }
-
-    // ---- request
-
     /// What a request of the document that the live frame shows asks for a feature, and the state that it
     /// finds at a time that is not before the clock.
     fn asking<L: Ledger>(
@@ -167,7 +149,8 @@ impl Engine {
         let page = self.page_of(h, steps);
         let row = self.row(h, steps);
         let key = key_for(row, feature).unwrap();
-        let state = permission_state(row, feature, self.stored_at(feature, key, now, steps));
+        let stored = stored_at(&self.store, feature, key, now, steps);
+        let state = permission_state(row, feature, stored);
         let key = key.copy()?;
         Ok(Asking {
             page,
@@ -278,8 +261,6 @@ impl Engine {
         })
     }
 
-    // ---- answer
-
     /// The top document of a page: the one that its top frame shows.
     fn top_document<L: Ledger>(&self, page: FrameNo, steps: &mut Steps<L>) -> Option<DocNo>
         ensures { (H : History) → StandsFor self.now H → result ≡ document_in (steps_of self.now H) page }
@@ -298,10 +279,11 @@ impl Engine {
         now: Millis,
         steps: &mut Steps<L>,
     ) -> bool
-        ensures { (H : History) → StandsFor self.now H → self.now.clock ≤ now → result ≡ is_some (embargo_for now (steps_of self.now H) (feature, key.now)) }
+        ensures embargo { (H : History) → StandsFor self.now H → self.now.clock ≤ now → result ≡ is_some (embargo_for now (steps_of self.now H) (feature, key.now)) }
+        ensures later { (later : StoreValue) → IsLapsed now self.now.store later → result ≡ completes_embargo later (feature, key.now) }
     {
         engine_laws();
-        if !is_undecided(self.stored_at(feature, key, now, steps)) {
+        if !is_undecided(stored_at(&self.store, feature, key, now, steps)) {
             return false;
         }
         self.store.dismissals(feature, key) + 1 == EMBARGO_DISMISSALS
@@ -317,8 +299,9 @@ impl Engine {
         steps: &mut Steps<L>,
     ) -> Option<(State, Life)>
         requires { IsTrue (is_life outcome life) }
-        ensures { (H : History) (k : ℕ) → StandsFor self.now H → self.now.clock ≤ now → prompt_at self.now.prompts k ≡ Some asked.now
+        ensures decided { (H : History) (k : ℕ) → StandsFor self.now H → self.now.clock ≤ now → prompt_at self.now.prompts k ≡ Some asked.now
             → IsDecided (steps_of self.now H) now k outcome life (pair_of asked.now) result }
+        ensures dismissed { result ≡ None → (later : StoreValue) → IsLapsed now self.now.store later → completes_embargo later (pair_of asked.now) ≡ false }
     {
         engine_laws();
         match outcome {
@@ -360,9 +343,10 @@ impl Engine {
             Err(AnswerFault::Closed) => Err(Cause::Closed),
             Err(AnswerFault::NotShown) => Err(Cause::NotShown),
             Err(AnswerFault::Unknown) => Err(Cause::Unknown),
-            Err(AnswerFault::Memory) => Err(Cause::Unknown),
+            Err(AnswerFault::Memory) => unreachable!(),
         }
     }
+
     /// Whether what an answer decides for a pair would make an entry in a store of as many as there may
     /// be.
     fn exceeds_by<L: Ledger>(
@@ -372,8 +356,9 @@ impl Engine {
         decided: &Option<(State, Life)>,
         steps: &mut Steps<L>,
     ) -> bool
-        ensures { (H : History) → StandsFor self.now H
+        ensures limit { (H : History) → StandsFor self.now H
             → result ≡ (is_some decided.now && (not (has_entry (steps_of self.now H) (feature, key.now)) && nat_le STORE_LIMIT (length (entries (steps_of self.now H))))) }
+        ensures room { (x : State × Life) (to : ℕ) (later : StoreValue) → decided.now ≡ Some x → IsLapsed to self.now.store later → IsFull later.entries (feature, key.now) → IsTrue result }
     {
         match decided {
             Some(_) => self.exceeds_store(feature, key, steps),
@@ -393,6 +378,7 @@ impl Engine {
         requires { IsTrue (is_life outcome life) }
         ensures checked { (H : History) → StandsFor self.now H → IsChecked self.now H (timed now (event.Answered number outcome life)) result }
         ensures decided { (H : History) → StandsFor self.now H → IfOk result (λ d. IsDecided (steps_of self.now H) now number outcome life (d.feature, d.key) d.set) }
+        ensures fits { IfOk result (λ d. (later : StoreValue) → IsLapsed now self.now.store later → FitsStore later (d.feature, d.key) d.set) }
         ensures number { IfOk result (λ d. d.prompt ≡ number) }
         ensures late { OnOk result (self.now.clock ≤ now) }
         ensures few { OnOk result (length self.now.made < EVENT_LIMIT) }
@@ -416,8 +402,8 @@ impl Engine {
         })
     }
 
-    /// Sets what an answer at this time decided for its pair, or counts the dismissal. The changes are
-    /// those that the setting brings.
+    /// Sets what an answer at this time decided for its pair, or counts the dismissal, which is no embargo.
+    /// The changes are those that the setting brings.
     fn store_decided<L: Ledger>(
         &mut self,
         feature: Feature,
@@ -426,6 +412,7 @@ impl Engine {
         now: Millis,
         steps: &mut Steps<L>,
     ) -> Result<Vec<Change>, AllocError>
+        requires fits { FitsStore self.old.store (feature, key) decided }
         ensures rest { OnOk result (self.new ≡ record self.old { store = self.new.store }) }
         ensures set { (x : State × Life) → decided ≡ Some x → OnOk result (IsSet (setting_for (feature, key) x) self.old.store self.new.store) }
         ensures dismissed { decided ≡ None → OnOk result (IsDismissed (feature, key) now self.old.store self.new.store) }
@@ -437,24 +424,11 @@ impl Engine {
         let Some((state, life)) = decided else {
             return match self.store.dismissed(feature, key, now) {
                 Ok(_) => Ok(Vec::new(self.alloc)),
-                Err(_) => Err(AllocError),
+                Err(StoreFault::Memory) => Err(AllocError),
+                Err(StoreFault::Full) => unreachable!(),
             };
         };
-        let after = changes_of_setting(
-            self.alloc,
-            &self.store,
-            &self.statuses,
-            &self.frames,
-            feature,
-            &key,
-            state,
-            now,
-            steps,
-        )?;
-        match self.store.set(feature, key, state, life) {
-            Ok(()) => Ok(after),
-            Err(_) => Err(AllocError),
-        }
+        self.store_setting(feature, key, state, life, now, steps)
     }
 
     /// Answers the shown prompt of this number (Permissions, "request permission to use"): it is settled,

@@ -1,9 +1,8 @@
 //! `query` and `drop`: the permission statuses that a document asks for.
-ghost use Rattle.std.specs.Prelude.{◌≡◌, IfOk, IfErr, IfSome, IfNone, IsSome, Some, None, false, true, ℕ, length, option_map};
+ghost use Rattle.std.specs.Prelude.{◌≡◌, IfOk, IfErr, IfSome, IfNone, IsSome, Some, None, false, true, ℕ, length};
 ghost use Rattle.pe_events.specs.declared.event.Event.TheVariants as event;
 ghost use Rattle.pe_features.specs.Features.{feature_named, key_of};
 ghost use Rattle.pe_frames.specs.Forest.{entry_of};
-ghost use Rattle.pe_store.specs.Entries as store;
 ghost use Rattle.pe_status.specs.Registry.{AreBelow};
 ghost use Rattle.pe_rules.specs.Causes.{lacks_key};
 ghost use Rattle.pe_rules.specs.Embedders.{page_of_frame};
@@ -15,6 +14,7 @@ ghost use Rattle.pe_engine.specs.Registering.{HasRegistered};
 ghost use Rattle.pe_engine.specs.Replying.{timed, IsReplied};
 ghost use Rattle.pe_engine.specs.StandsFor.{StandsFor};
 
+use crate::decision::stored_at;
 use crate::engine::{Engine, Made};
 use crate::laws::engine_laws;
 use crate::refusal::Refusal;
@@ -25,7 +25,6 @@ use pe_base::{FrameNo, Millis, STATUS_LIMIT, State, StatusNo, Steps};
 use pe_events::{Answer, Cause};
 use pe_features::Feature;
 use pe_status::ReleaseFault;
-use pe_store::Key;
 use std::alloc::AllocError;
 use std::sync::ledger::Ledger;
 
@@ -48,28 +47,13 @@ impl Engine {
         ensures { (H : History) (f : ℕ) → StandsFor self.now H → handle_at self.now.made f ≡ Some h → page_of_frame (replied self.now.duration H) f ≡ Some result }
     {
         engine_laws();
-        let own = self.frames.node(h, steps).unwrap();
-        let Some(top) = self.frames.node(own.top, steps) else {
-            return own.frame;
-        };
-        top.frame
-    }
-
-    /// The state that is stored for a pair.
-    pub(crate) fn stored<L: Ledger>(
-        &self,
-        feature: Feature,
-        key: &Key,
-        steps: &mut Steps<L>,
-    ) -> Option<State>
-        ensures { result ≡ option_map (λ e. e.state) (store.entry_of self.now.store.entries (feature, key.now)) }
-    {
-        let entry = self.store.get(feature, key, steps)?;
-        Some(entry.state)
+        self.frames.is_counted_in_tree_order();
+        let top = self.frames.top(h).unwrap();
+        self.frames.node(top, steps).unwrap().frame
     }
 
     /// Registers a permission status of the document that the live frame shows, and gives the state of
-    /// the permission there.
+    /// the permission there at the clock.
     fn register<L: Ledger>(
         &mut self,
         no: StatusNo,
@@ -91,7 +75,8 @@ impl Engine {
             doc: row.doc,
         };
         let key = key_for(row, feature).unwrap();
-        let state = permission_state(row, feature, self.stored(feature, key, steps));
+        let stored = stored_at(&self.store, feature, key, self.clock, steps);
+        let state = permission_state(row, feature, stored);
         let own = key.copy()?;
         let Ok(_) = self.statuses.query(no, page, doc, feature, own) else {
             return Err(AllocError);

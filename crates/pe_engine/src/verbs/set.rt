@@ -1,13 +1,19 @@
 //! `set`: what is stored for a pair of a feature and a key is set.
-ghost use Rattle.std.specs.Prelude.{◌≡◌, ◌&&◌, nat_le, not, IsTrue, length};
+ghost use Rattle.std.specs.Prelude.{◌≡◌, ◌∷◌, ◌&&◌, ℕ, nat_le, not, Some, IfOk, IsTrue, OnOk, length};
 ghost use Rattle.pe_base.specs.declared.limits.TheConstants.{STORE_LIMIT};
 ghost use Rattle.pe_events.specs.declared.event.Event.TheVariants as event;
 ghost use Rattle.pe_events.specs.Fitting.{is_span_or_none};
+ghost use Rattle.pe_store.specs.Entries.{StoreValue, IsFull};
+ghost use Rattle.pe_changes.specs.Parts.{IsStore, IsStatuses, AreGoverned};
+ghost use Rattle.pe_changes.specs.StoreSteps.{IsSet, IsLapsed};
 ghost use Rattle.pe_rules.specs.Causes.{entries};
-ghost use Rattle.pe_rules.specs.History.{History};
-ghost use Rattle.pe_rules.specs.Settings.{has_entry, life_for};
+ghost use Rattle.pe_rules.specs.Changes.{changes_after};
+ghost use Rattle.pe_rules.specs.History.{History, RepliedHistory, Step};
+ghost use Rattle.pe_rules.specs.Settings.{has_entry, holds, life_for, setting_by};
 ghost use Rattle.pe_engine.specs.Giving.{GivesOrigin, GivesOriginOrNone, GivesKey, GivesPair};
+ghost use Rattle.pe_engine.specs.Prompting.{setting_for};
 ghost use Rattle.pe_engine.specs.Replying.{steps_of, timed, IsReplied};
+ghost use Rattle.pe_engine.specs.Rows.{blocks};
 ghost use Rattle.pe_engine.specs.StandsFor.{StandsFor};
 
 use crate::attribute::place_named;
@@ -17,12 +23,12 @@ use crate::refusal::Refusal;
 use crate::replies::Replies;
 use pe_base::{Millis, STORE_LIMIT, State, Steps};
 use pe_changes::changes_of_setting;
-use pe_events::{Answer, Cause};
+use pe_events::{Answer, Cause, Change};
 use pe_features::{Feature, KeyKind};
 use pe_lines::Text;
 use pe_origin::Origin;
-use pe_store::{Key, Life};
-use std::alloc::Global;
+use pe_store::{Key, Life, StoreFault};
+use std::alloc::{AllocError, Global};
 use std::sync::ledger::Ledger;
 
 /// The tuple origin of an origin word, or why it is refused.
@@ -113,22 +119,60 @@ fn life_for(now: Millis, span: Option<u64>) -> Life
 }
 
 impl Engine {
-    /// Whether a setting of this pair would make an entry in a store of as many as there may be.
+    /// Whether a setting of this pair would make an entry in a store of as many as there may be. Where it
+    /// would not, the pair finds room also once entries ended.
     pub(crate) fn exceeds_store<L: Ledger>(
         &self,
         feature: Feature,
         key: &Key,
         steps: &mut Steps<L>,
     ) -> bool
-        ensures { (H : History) → StandsFor self.now H
+        ensures limit { (H : History) → StandsFor self.now H
             → result ≡ (not (has_entry (steps_of self.now H) (feature, key.now)) && nat_le STORE_LIMIT (length (entries (steps_of self.now H)))) }
+        ensures room { (to : ℕ) (later : StoreValue) → IsLapsed to self.now.store later → IsFull later.entries (feature, key.now) → IsTrue result }
     {
         engine_laws();
         self.store.is_one_per_pair();
-        if self.store.get(feature, key, steps).is_some() {
+        if self.store.len() < STORE_LIMIT {
             return false;
         }
-        self.store.len() >= STORE_LIMIT
+        self.store.get(feature, key, steps).is_none()
+    }
+
+    /// Sets what is stored for a pair at this time, in a store that has room for it. The changes are those
+    /// that the setting brings.
+    pub(crate) fn store_setting<L: Ledger>(
+        &mut self,
+        feature: Feature,
+        key: Key,
+        state: State,
+        life: Life,
+        now: Millis,
+        steps: &mut Steps<L>,
+    ) -> Result<Vec<Change>, AllocError>
+        requires room { IsFull self.old.store.entries (feature, key) → ⊥ }
+        ensures rest { OnOk result (self.new ≡ record self.old { store = self.new.store }) }
+        ensures set { OnOk result (IsSet (setting_for (feature, key) (state, life)) self.old.store self.new.store) }
+        ensures changes { (T : RepliedHistory) (s : Step) → setting_by s.time s.event T ≡ Some (setting_for (feature, key) (state, life)) → IsTrue (holds (s ∷ T) now life)
+            → IsStore T now self.old.store → IsStatuses T self.old.statuses → AreGoverned T (λ x. x.doc) blocks self.old.frames.entries self.old.statuses.live
+            → IfOk result (λ changes. changes.items ≡ changes_after T (s ∷ T) now) }
+    {
+        let after = changes_of_setting(
+            self.alloc,
+            &self.store,
+            &self.statuses,
+            &self.frames,
+            feature,
+            &key,
+            state,
+            now,
+            steps,
+        )?;
+        match self.store.set(feature, key, state, life) {
+            Ok(()) => Ok(after),
+            Err(StoreFault::Memory) => Err(AllocError),
+            Err(StoreFault::Full) => unreachable!(),
+        }
     }
 
     /// Sets what is stored for the pair that a feature's name and one origin word or two name
@@ -162,24 +206,8 @@ impl Engine {
             return Err(Refusal::For(Cause::LimitStore));
         }
         let before = self.pass(now, steps)?;
-        let after = changes_of_setting(
-            self.alloc,
-            &self.store,
-            &self.statuses,
-            &self.frames,
-            feature,
-            &key,
-            state,
-            now,
-            steps,
-        )?;
-        if self
-            .store
-            .set(feature, key, state, life_for(now, span))
-            .is_err()
-        {
-            return Err(Refusal::Memory);
-        }
+        let life = life_for(now, span);
+        let after = self.store_setting(feature, key, state, life, now, steps)?;
         self.note(now, Made::Nothing)?;
         Ok(Replies {
             before,

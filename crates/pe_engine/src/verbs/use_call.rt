@@ -1,10 +1,11 @@
 //! `use`: a document makes a call.
-ghost use Rattle.std.specs.Prelude.{◌≡◌, None, IsSome, IfSome};
-ghost use Rattle.pe_frames.specs.Forest.{entry_of, with_doc};
+ghost use Rattle.std.specs.Prelude.{◌≡◌, ◌+◌, ◌*◌, ◌≤◌, None, IsSome, IfSome};
+ghost use Rattle.pe_frames.specs.Forest.{entry_of, page_size, top_of, with_doc};
 ghost use Rattle.pe_events.specs.declared.event.Event.TheVariants as event;
 ghost use Rattle.pe_rules.specs.History.{History};
 ghost use Rattle.pe_rules.specs.Replies.{answer_of_verdict};
-ghost use Rattle.pe_engine.specs.Replying.{timed, IsAnswer};
+ghost use Rattle.pe_engine.specs.Costs.{consumed_by_use, taken_of};
+ghost use Rattle.pe_engine.specs.Replying.{steps_of, timed, IsAnswer};
 ghost use Rattle.pe_engine.specs.Rows.{with_delivery};
 ghost use Rattle.pe_engine.specs.StandsFor.{StandsFor};
 ghost use Rattle.pe_engine.specs.Using.{HasTaken};
@@ -29,7 +30,8 @@ fn spend<L: Ledger>(
     capability: Capability,
     steps: &mut Steps<L>,
 )
-    ensures { IfSome (entry_of frames.old.entries h) (λ e. frames.new ≡ with_doc frames.old h (record e.doc { delivered = with_delivery capability None e.doc.delivered })) }
+    ensures spent { IfSome (entry_of frames.old.entries h) (λ e. frames.new ≡ with_doc frames.old h (record e.doc { delivered = with_delivery capability None e.doc.delivered })) }
+    ensures cost { steps.new ≡ steps.old + 1 }
 {
     if let Some(row) = frames.doc_mut(h, steps) {
         row.delivered.note(capability, None);
@@ -46,7 +48,8 @@ fn take<L: Ledger>(
     steps: &mut Steps<L>,
 )
     requires live { IsSome (entry_of frames.old.entries h) }
-    ensures { HasTaken gate verdict.now h frames.old frames.new }
+    ensures taken { HasTaken gate verdict.now h frames.old frames.new }
+    ensures cost { IfSome (entry_of frames.old.entries h) (λ e. steps.new ≤ steps.old + 1 + 2 * taken_of gate verdict.now (page_size frames.old.entries (top_of e))) }
 {
     match verdict {
         Verdict::Allowed(Via::Transient) => {
@@ -83,7 +86,8 @@ impl Engine {
         name: &[u8],
         steps: &mut Steps<L>,
     ) -> Result<Answer, Refusal>
-        ensures { (H : History) → StandsFor self.old H → IsAnswer self.old self.new H (timed now (event.UseCall frame name.now)) result }
+        ensures answered { (H : History) → StandsFor self.old H → IsAnswer self.old self.new H (timed now (event.UseCall frame name.now)) result }
+        ensures cost { (H : History) → StandsFor self.old H → steps.new ≤ steps.old + 3 + 2 * consumed_by_use self.old.duration (steps_of self.old H) now frame name.now }
     {
         engine_laws();
         let (_, h) = self.next_in(now, frame)?;

@@ -1,15 +1,13 @@
-use Rattle.std.proofs.Common.{is_some, sym, ◌∙◌, ap}
-use Rattle.pe_engine.proofs.Deciding.{state-insecure, state-denied, state-stored}
+use Rattle.std.proofs.Common.{sym, ◌∙◌, ap}
+use Rattle.pe_laws.specs.PermissionStateLaws.{state_from}
+use Rattle.pe_engine.proofs.Deciding.{state-of-row}
 use Rattle.pe_engine.proofs.verdict.permission_state.Goals as goal
 
-pub returns-then-not-row : goal.returns-then-not-row
-returns-then-not-row c = λ T now is kept. sym (state-insecure T now c.args.row.now c.args.feature is c.if-not-row.true)
-
-pub returns-then-is_some : goal.returns-then-is_some
-returns-then-is_some c = λ T now is kept.
-    sym (state-denied T now c.args.row.now.doc c.args.feature (ap is_some (sym (c.why_denied.ensures T c.args.row.now.doc is.policy)) ∙ sym c.is_some.ensures ∙ c.if-is_some.true))
+pub returns-then-is_blocked : goal.returns-then-is_blocked
+returns-then-is_blocked c = λ T now is kept.
+    sym (state-of-row c.history_laws.ensures T now c.args.row.now c.args.feature c.args.stored is kept ∙ ap (λ b. state_from b c.args.stored) (sym c.is_blocked.ensures ∙ c.if-is_blocked.true))
 
 pub returns : goal.returns
 returns c = λ T now is kept.
     c.unwrap_or.ensures
-    ∙ sym (state-stored T now c.args.row.now c.args.feature c.args.stored is c.if-not-row.false (ap is_some (sym (c.why_denied.ensures T c.args.row.now.doc is.policy)) ∙ sym c.is_some.ensures ∙ c.if-is_some.false) kept)
+    ∙ sym (state-of-row c.history_laws.ensures T now c.args.row.now c.args.feature c.args.stored is kept ∙ ap (λ b. state_from b c.args.stored) (sym c.is_blocked.ensures ∙ c.if-is_blocked.false))

@@ -6,11 +6,11 @@ use Rattle.pe_engine.proofs.Accepted.{noted-silent, accept-silent}
 use Rattle.pe_engine.proofs.VerbAnswers.{feature-policy, other-policy, policy-answer}
 use Rattle.pe_engine.proofs.engine.Engine.policy.Goals as goal
 
-pub returns-in_default : goal.returns-in_default
-returns-in_default g c = λ H s. record { first = c.in_ok-h.ensures.rest H _ s refl ∙ feature-policy _ _ _ _ c.in_default.ensures.none; kept = refl }
+pub returns-in_default-clause-answered : goal.returns-in_default-clause-answered
+returns-in_default-clause-answered g c = λ H s. record { first = c.in_ok-h.ensures.rest H _ s refl ∙ feature-policy _ _ _ _ c.in_default.ensures.none; kept = refl }
 
-pub returns : goal.returns
-returns g c = λ H s.
+pub returns-clause-answered : goal.returns-clause-answered
+returns-clause-answered g c = λ H s.
     let e = c.args.self.now in
     let T = replied e.duration H in
     let shown = c.row.ensures.shown H c.args.frame s c.in_ok-h.ensures.handle in

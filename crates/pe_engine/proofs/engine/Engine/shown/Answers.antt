@@ -48,5 +48,5 @@ returns-in-Err-Unknown-clause-cause c = λ H out given s.
     named-by c.engine_laws.ensures e.duration H e.prompts k out given (Some fault.Unknown) s.steps.prompts
     (ap (λ (v : EngineValue). refusal v.prompts k) (sym c.self.view_is) ∙ ap (refusal c.self.inside.prompts) (sym c.of.ensures) ∙ c.in-Err-Unknown.ensures.err ∙ ap Some c.in-Err-Unknown.field-0-is)
 
-pub returns-in-Err-Memory-clause-cause : goal.returns-in-Err-Memory-clause-cause
-returns-in-Err-Memory-clause-cause c = λ H out given s. absurd (never-memory c.self.inside.prompts c.of.result (c.in-Err-Memory.ensures.err ∙ ap Some c.in-Err-Memory.field-0-is))
+pub unreachable-requires : goal.unreachable-requires
+unreachable-requires c = never-memory c.self.inside.prompts c.of.result (c.in-Err-Memory.ensures.err ∙ ap Some c.in-Err-Memory.field-0-is)

@@ -1,3 +1,6 @@
+use Rattle.std.proofs.Common.{subst}
+use Rattle.pe_rules.specs.Replies.{replied}
+use Rattle.pe_engine.specs.Costs.{IsWithin}
 use Rattle.pe_engine.specs.Replying.{timed}
 use Rattle.pe_engine.proofs.Firing.{clause-before, clause-after}
 use Rattle.pe_engine.proofs.Isolated.{clause-isolated}
@@ -26,3 +29,9 @@ returns-clause-isolated g c = λ H top s own.
 
 pub returns-clause-muted : goal.returns-clause-muted
 returns-clause-muted g c = λ H top s. c.isolation_laws.ensures.regular c.args.self.now.duration top H s.regular
+
+pub returns-clause-policy_cost : goal.returns-clause-policy_cost
+returns-clause-policy_cost g c = λ H frame name s at is. subst (λ x. IsWithin c.args.self.now.duration (replied c.args.self.now.duration H) c.args.stamped.now.time x _ _) is (c.reply.ensures.cost H s at)
+
+pub returns-clause-use_cost : goal.returns-clause-use_cost
+returns-clause-use_cost g c = λ H frame name s at is. subst (λ x. IsWithin c.args.self.now.duration (replied c.args.self.now.duration H) c.args.stamped.now.time x _ _) is (c.reply.ensures.cost H s at)

@@ -1,23 +1,43 @@
-use Rattle.std.proofs.Common.{◌≡◌, ◌∷◌, refl, sym, subst}
-use Rattle.std.specs.Prelude.{IfOk}
-use Rattle.pe_rules.specs.Changes.{changes_after}
-use Rattle.pe_changes.specs.Parts.{IsStore, IsStatuses, AreGoverned}
-use Rattle.pe_engine.specs.declared.row.Row.{Row}
-use Rattle.pe_engine.specs.Prompting.{setting_for}
-use Rattle.pe_engine.specs.Rows.{blocks}
+use Rattle.std.proofs.Common.{◌≡◌, ◌∷◌, true, Some, Err, sym, ◌∙◌, ap, subst, true≢false}
+use Rattle.std.specs.Prelude.{IsTrue, OnOk}
+use Rattle.pe_base.specs.declared.state.State.{State}
+use Rattle.pe_store.specs.declared.key.Life.{Life}
+use Rattle.pe_store.specs.Entries.{completes_embargo}
+use Rattle.pe_store.specs.Pairs.{Pair}
+use Rattle.pe_rules.specs.Settings.{Setting, setting_by, holds}
+use Rattle.pe_changes.specs.StoreSteps.{IsSet}
+use Rattle.pe_engine.specs.Prompting.{setting_for, FitsStore}
 use Rattle.pe_engine.specs.StandsFor.{EngineValue}
 use Rattle.pe_engine.proofs.engine.Engine.store_decided.Goals as goal
-use Rattle.pe_engine.proofs.engine.Engine.store_decided.Goals.{in-Ok-set, in-Err-set}
+
+pub unreachable-requires : goal.unreachable-requires
+unreachable-requires g c =
+    let pair : Pair = (c.args.feature, c.args.key) in
+    let none = subst (FitsStore c.args.self.now.store pair) c.in_default.is c.requires.fits in
+    let embargo = subst (λ (v : EngineValue). completes_embargo v.store pair ≡ true) c.self.view_is (c.in-Err-Full.ensures.full.0 (ap Err c.in-Err-Full.field-0-is)).0 in
+    true≢false (sym embargo ∙ none)
+
+pub store_setting-requires-clause-room : goal.store_setting-requires-clause-room
+store_setting-requires-clause-room g c = subst (FitsStore c.args.self.now.store (c.args.feature, c.args.key)) c.in-Some.is c.requires.fits
+
+pub returns-clause-set : goal.returns-clause-set
+returns-clause-set g c = λ x decided.
+    let pair : Pair = (c.args.feature, c.args.key) in
+    let was = c.in-Some.is in
+    let state-was = c.in-Some.state-is in
+    let life-was = c.in-Some.life-is in
+    let state : c.in-Some.state ≡ x.0 = cc in
+    let life : c.in-Some.life ≡ x.1 = cc in
+    let same : setting_for pair (c.in-Some.state, c.in-Some.life) ≡ setting_for pair x = ap (λ (q : State). setting_for pair (q, c.in-Some.life)) state ∙ ap (λ (q : Life). setting_for pair (x.0, q)) life in
+    subst (λ (y : Setting). OnOk c.store_setting.result (IsSet y c.args.self.now.store c.store_setting.new.self.store)) same c.store_setting.ensures.set
 
 pub returns-clause-changes : goal.returns-clause-changes
 returns-clause-changes g c = λ T s x decided made lasts stored statuses governed.
+    let pair : Pair = (c.args.feature, c.args.key) in
     let was = c.in-Some.is in
     let state-was = c.in-Some.state-is in
+    let life-was = c.in-Some.life-is in
     let state : x.0 ≡ c.in-Some.state = cc in
-    let back = sym c.self.view_is in
-    elim c.match-set.branch [
-      | in-Ok-set w ↦ subst (λ r. IfOk r (λ changes. changes.items ≡ changes_after T (s ∷ T) c.args.now)) (sym w.result-is)
-          (c.in_ok-after.ensures.changes T s (setting_for (c.args.feature, c.args.key) x) made refl state lasts (subst (λ (v : EngineValue). IsStore T c.args.now v.store) back stored)
-          (subst (λ (v : EngineValue). IsStatuses T v.statuses) back statuses) (subst (λ (v : EngineValue). AreGoverned T (λ (y : Row). y.doc) blocks v.frames.entries v.statuses.live) back governed))
-      | in-Err-set w ↦ subst (λ r. IfOk r (λ changes. changes.items ≡ changes_after T (s ∷ T) c.args.now)) (sym w.result-is) tt
-    ]
+    let life : x.1 ≡ c.in-Some.life = cc in
+    let same : setting_for pair x ≡ setting_for pair (c.in-Some.state, c.in-Some.life) = ap (λ (q : State). setting_for pair (q, x.1)) state ∙ ap (λ (q : Life). setting_for pair (c.in-Some.state, q)) life in
+    c.store_setting.ensures.changes T s (subst (λ (y : Setting). setting_by s.time s.event T ≡ Some y) same made) (subst (λ (l : Life). IsTrue (holds (s ∷ T) c.args.now l)) life lasts) stored statuses governed
