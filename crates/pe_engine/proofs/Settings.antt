@@ -112,9 +112,12 @@ pub some-copied : {A : Type 0} (o : Option (Bor A)) → is_some (option_copied o
 some-copied None = refl
 some-copied (Some x) = refl
 
-pub none-some : {A : Type 0} (o : Option A) → is_none o ≡ not (is_some o)
-none-some None = refl
-none-some (Some x) = refl
+-- a test for None answers not whether there is one
+pub none-by : {A : Type 0} (o : Option A) (b : Bool) → is_some o ≡ not b → b ≡ not (is_some o)
+none-by (Some x) false is = refl
+none-by (Some x) true is = is
+none-by None true is = refl
+none-by None false is = is
 
 pub and-true : (b : Bool) → (b && true) ≡ b
 and-true true = refl

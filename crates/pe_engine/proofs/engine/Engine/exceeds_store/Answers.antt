@@ -7,7 +7,7 @@ use Rattle.pe_rules.specs.Causes.{entries}
 use Rattle.pe_rules.specs.Settings.{has_entry}
 use Rattle.pe_rules.specs.Replies.{replied}
 use Rattle.pe_engine.specs.StandsFor.{EngineValue}
-use Rattle.pe_engine.proofs.Settings.{some-copied, none-some, and-true, and-false, entry-there, entries-counted}
+use Rattle.pe_engine.proofs.Settings.{some-copied, none-by, and-true, and-false, entry-there, entries-counted}
 use Rattle.pe_engine.proofs.Storing.{lapsed-few, lapsed-missing}
 use Rattle.pe_engine.proofs.engine.Engine.exceeds_store.Goals as goal
 
@@ -37,11 +37,11 @@ returns-clause-limit g c = λ H s.
     let full : nat_le 65536 (length (entries T)) ≡ true = grind (arith, nat_tests) in
     let there : is_some c.get.result ≡ has_entry T pair =
     sym (some-copied c.get.result) ∙ ap is_some c.get.ensures.value ∙ ap (λ (v : EngineValue). is_some (entry_of v.store.entries pair)) c.self.view_is ∙ entry-there c.engine_laws.ensures e H pair s in
-    c.is_none.ensures ∙ none-some c.get.result ∙ ap not there ∙ sym (ap (λ b. not (has_entry T pair) && b) full ∙ and-true (not (has_entry T pair)))
+    none-by c.get.result c.is_none.result c.is_none.ensures ∙ ap not there ∙ sym (ap (λ b. not (has_entry T pair) && b) full ∙ and-true (not (has_entry T pair)))
 
 pub returns-clause-room : goal.returns-clause-room
 returns-clause-room g c = λ to later lapsed full.
     let pair : Pair = (c.args.feature, c.args.key.now) in
     let most : length c.args.self.now.store.entries ≤ STORE_LIMIT = subst (λ n. n ≤ STORE_LIMIT) (c.len.ensures.count ∙ ap (λ (v : EngineValue). length v.store.entries) c.self.view_is) c.len.ensures.limit in
     let missing = lapsed-missing to c.args.self.now.store later pair lapsed full most in
-    c.is_none.ensures ∙ none-some c.get.result ∙ ap not (sym (some-copied c.get.result) ∙ ap is_some (c.get.ensures.value ∙ ap (λ (v : EngineValue). entry_of v.store.entries pair) c.self.view_is ∙ missing))
+    none-by c.get.result c.is_none.result c.is_none.ensures ∙ ap not (sym (some-copied c.get.result) ∙ ap is_some (c.get.ensures.value ∙ ap (λ (v : EngineValue). entry_of v.store.entries pair) c.self.view_is ∙ missing))
