@@ -1,5 +1,5 @@
 -- Uses of calls: their causes, their verdicts, and what they leave of the tree.
-use Rattle.std.proofs.Common.{◌≡◌, ℕ, Bool, true, false, not, ◌&&◌, ◌||◌, List, [], ◌∷◌, ◌++◌, Option, Some, None, unwrap_or, option_map, option_and_then, if◌then◌else◌, refl, sym, ◌∙◌, ap, subst}
+use Rattle.std.proofs.Common.{◌≡◌, ◌≤◌, ◌+◌, ◌*◌, ℕ, Bool, true, false, not, ◌&&◌, ◌||◌, List, [], ◌∷◌, ◌++◌, Option, Some, None, unwrap_or, option_map, option_and_then, if◌then◌else◌, refl, sym, ◌∙◌, ap, subst, arith}
 use Rattle.std.specs.Prelude.{IfSome}
 use Rattle.std.specs.Option.{option_or}
 use Rattle.pe_arena.specs.declared.handle.Handle.{Handle}
@@ -136,6 +136,18 @@ taken-documents e H now f d name call h x v s at here shown named is =
     ap (taken_of (gate_of call) v) (limits-at e H f h x s at here).1
     ∙ taken-as (gate_of call) v (is_consuming_call name) n (consuming-is name call (gate_of call).consumes named refl)
     ∙ ap (λ item. if is_by_transient item && is_consuming_call name then n else 0) (sym (use-told e.duration T now f d name call shown named ∙ ap Judged (sym is)))
+
+-- what a use costs: three looks, and two more for each document whose user activation it consumes
+pub use-cost : (e inside : EngineValue) (H : History) (now f d : ℕ) (name : List ℕ) (call : Call) (h : Handle) (x : Entry Row) (v : Verdict) (gate : Gate) (before looked after : ℕ) → StandsFor e H → handle_at e.made f ≡ Some h → entry_of e.frames.entries h ≡ Some x
+    → document_in (replied e.duration H) f ≡ Some d → call_named name ≡ Some call → v ≡ verdict_of e.duration (replied e.duration H) now d call → inside ≡ e → gate ≡ gate_of call
+    → looked ≤ before + 2 → IfSome (entry_of inside.frames.entries h) (λ y. after ≤ looked + 1 + 2 * taken_of gate v (page_size inside.frames.entries (top_of y)))
+    → after ≤ before + 3 + 2 * consumed_by_use e.duration (replied e.duration H) now f name
+use-cost e inside H now f d name call h x v gate before looked after s at here shown named is same row few took =
+    let documents = taken-documents e H now f d name call h x v s at here shown named is in
+    let paged = ap (λ (w : EngineValue). taken_of gate v (page_size w.frames.entries (top_of x))) same in
+    let by_gate = ap (λ (y : Gate). taken_of y v (page_size e.frames.entries (top_of x))) row in
+    let spent = if-some (entry_of inside.frames.entries h) x _ (ap (λ (w : EngineValue). entry_of w.frames.entries h) same ∙ here) took in
+    omega (arith, few, spent, paged, by_gate, documents)
 
 -- ---- what a use leaves of the tree
 

@@ -42,5 +42,5 @@ returns g c = λ H s.
     ∙ sym (laws.prompts.settles e.duration T now e.prompts k c.args.outcome c.args.life items s.steps.prompts requests))
     (c.in-Ok.ensures.decided H s) settled c.in_ok-after.ensures.set c.in_ok-after.ensures.dismissed c.in_ok-after.ensures.changes c.in_ok-after.ensures.none
 
-pub store_decided-requires-clause-fits : goal.store_decided-requires-clause-fits
-store_decided-requires-clause-fits g c = c.in-Ok.ensures.fits c.pass.new.self.store c.in_ok-before.ensures.lapsed
+pub store_decided-requires : goal.store_decided-requires
+store_decided-requires g c = record { fits = c.in-Ok.ensures.fits c.pass.new.self.store c.in_ok-before.ensures.lapsed }

@@ -71,5 +71,5 @@ returns g c = λ H s.
     (λ t. subst (λ (l : Life). BringsSetting p t now (record { pair = pair; state = c.args.state; life = l }) c.in_ok-after.after) c.life_for-life.ensures
     (λ U made lasts kept statuses governed. c.in_ok-after.ensures.changes U t made lasts kept statuses governed))
 
-pub store_setting-requires-clause-room : goal.store_setting-requires-clause-room
-store_setting-requires-clause-room g c = λ full. absurd (true≢false (sym (c.exceeds_store.ensures.room c.args.now c.pass.new.self.store c.in_ok-before.ensures.lapsed full) ∙ c.if-exceeds_store.false))
+pub store_setting-requires : goal.store_setting-requires
+store_setting-requires g c = record { room = λ full. absurd (true≢false (sym (c.exceeds_store.ensures.room c.args.now c.pass.new.self.store c.in_ok-before.ensures.lapsed full) ∙ c.if-exceeds_store.false)) }

@@ -17,8 +17,8 @@ unreachable-requires g c =
     let embargo = subst (λ (v : EngineValue). completes_embargo v.store pair ≡ true) c.self.view_is (c.in-Err-Full.ensures.full.0 (ap Err c.in-Err-Full.field-0-is)).0 in
     true≢false (sym embargo ∙ none)
 
-pub store_setting-requires-clause-room : goal.store_setting-requires-clause-room
-store_setting-requires-clause-room g c = subst (FitsStore c.args.self.now.store (c.args.feature, c.args.key)) c.in-Some.is c.requires.fits
+pub store_setting-requires : goal.store_setting-requires
+store_setting-requires g c = record { room = subst (FitsStore c.args.self.now.store (c.args.feature, c.args.key)) c.in-Some.is c.requires.fits }
 
 pub returns-clause-set : goal.returns-clause-set
 returns-clause-set g c = λ x decided.
@@ -26,10 +26,10 @@ returns-clause-set g c = λ x decided.
     let was = c.in-Some.is in
     let state-was = c.in-Some.state-is in
     let life-was = c.in-Some.life-is in
-    let state : c.in-Some.state ≡ x.0 = cc in
-    let life : c.in-Some.life ≡ x.1 = cc in
-    let same : setting_for pair (c.in-Some.state, c.in-Some.life) ≡ setting_for pair x = ap (λ (q : State). setting_for pair (q, c.in-Some.life)) state ∙ ap (λ (q : Life). setting_for pair (x.0, q)) life in
-    subst (λ (y : Setting). OnOk c.store_setting.result (IsSet y c.args.self.now.store c.store_setting.new.self.store)) same c.store_setting.ensures.set
+    let state : x.0 ≡ c.in-Some.state = cc in
+    let life : x.1 ≡ c.in-Some.life = cc in
+    let same : setting_for pair x ≡ setting_for pair (c.in-Some.state, c.in-Some.life) = ap (λ (q : State). setting_for pair (q, x.1)) state ∙ ap (λ (q : Life). setting_for pair (c.in-Some.state, q)) life in
+    subst (λ (y : Setting). OnOk c.store_setting.result (IsSet y c.args.self.now.store c.store_setting.new.self.store)) (sym same) c.store_setting.ensures.set
 
 pub returns-clause-changes : goal.returns-clause-changes
 returns-clause-changes g c = λ T s x decided made lasts stored statuses governed.

@@ -1,5 +1,5 @@
-use Rattle.std.proofs.Common.{◌≡◌, ◌≤◌, [], ◌∷◌, ◌++◌, length, Some, refl, sym, ◌∙◌, ap, subst, arith}
-use Rattle.pe_frames.specs.Forest.{Forest, entry_of, page_size, top_of}
+use Rattle.std.proofs.Common.{◌≡◌, ◌≤◌, [], ◌∷◌, ◌++◌, length, Some, refl, sym, ◌∙◌, ap, subst}
+use Rattle.pe_frames.specs.Forest.{Forest, entry_of}
 use Rattle.pe_features.specs.declared.call.Gate.{Gate}
 use Rattle.pe_features.specs.Calls.{call_named, gate_of}
 use Rattle.pe_events.specs.declared.event.Event.TheVariants as event
@@ -10,11 +10,10 @@ use Rattle.pe_engine.specs.declared.row.Row.{Row}
 use Rattle.pe_engine.specs.StandsFor.{EngineValue}
 use Rattle.pe_engine.specs.Replying.{timed}
 use Rattle.pe_engine.specs.Tree.{IsTree}
-use Rattle.pe_engine.specs.Costs.{taken_of}
 use Rattle.pe_engine.specs.Using.{HasTaken}
 use Rattle.pe_engine.proofs.Accepted.{step_of, noted, accept}
 use Rattle.pe_engine.proofs.CommonCauses.{some-of}
-use Rattle.pe_engine.proofs.Uses.{taken-documents, if-some, call-use, other-use, use-answer, use-told, shown-entry, delegated-capability, made-taken, kept-use}
+use Rattle.pe_engine.proofs.Uses.{use-cost, call-use, other-use, use-answer, use-told, shown-entry, delegated-capability, made-taken, kept-use}
 use Rattle.pe_engine.proofs.engine.Engine.use_call.Goals as goal
 
 pub returns-in_default-clause-answered : goal.returns-in_default-clause-answered
@@ -60,16 +59,17 @@ returns-clause-cost g c = λ H s.
     let e = c.args.self.now in
     let h = c.in_ok-h.h in
     let call = c.in-Some.call in
-    let name = c.args.name.now in
-    let said = c.judge-verdict.result in
     let (x, here) = some-of (entry_of e.frames.entries h) c.in_ok-h.ensures.found in
     let shown = shown-entry e H c.args.frame h x s c.in_ok-h.ensures.handle here in
-    let named : call_named name ≡ Some call = sym c.by_name.ensures.table ∙ c.in-Some.is in
-    let judged = c.judge-verdict.ensures.verdict H c.args.frame x.doc.doc s c.in_ok-h.ensures.late c.in_ok-h.ensures.handle shown in
-    let documents = taken-documents e H c.args.now c.args.frame x.doc.doc name call h x said s c.in_ok-h.ensures.handle here shown named judged in
-    let looked = c.judge-verdict.ensures.cost in
-    let by_gate = ap (λ (y : Gate). taken_of y said (page_size e.frames.entries (top_of x))) c.gate_of.ensures.row in
-    let inside = ap (λ (v : EngineValue). entry_of v.frames.entries h) c.self.view_is ∙ here in
-    let paged = ap (λ (v : EngineValue). taken_of c.gate_of.result said (page_size v.frames.entries (top_of x))) c.self.view_is in
-    let took = if-some (entry_of c.self.inside.frames.entries h) x _ inside c.take.ensures.cost in
-    omega (arith, looked, took, paged, by_gate, documents)
+    use-cost e _ H c.args.now c.args.frame x.doc.doc c.args.name.now call h x c.judge-verdict.result c.gate_of.result _ _ _ s c.in_ok-h.ensures.handle here shown (sym c.by_name.ensures.table ∙ c.in-Some.is)
+    (c.judge-verdict.ensures.verdict H c.args.frame x.doc.doc s c.in_ok-h.ensures.late c.in_ok-h.ensures.handle shown) c.self.view_is c.gate_of.ensures.row c.judge-verdict.ensures.cost c.take.ensures.cost
+
+pub returns-in_err-note-clause-cost : goal.returns-in_err-note-clause-cost
+returns-in_err-note-clause-cost g c = λ H s.
+    let e = c.args.self.now in
+    let h = c.in_ok-h.h in
+    let call = c.in-Some.call in
+    let (x, here) = some-of (entry_of e.frames.entries h) c.in_ok-h.ensures.found in
+    let shown = shown-entry e H c.args.frame h x s c.in_ok-h.ensures.handle here in
+    use-cost e _ H c.args.now c.args.frame x.doc.doc c.args.name.now call h x c.judge-verdict.result c.gate_of.result _ _ _ s c.in_ok-h.ensures.handle here shown (sym c.by_name.ensures.table ∙ c.in-Some.is)
+    (c.judge-verdict.ensures.verdict H c.args.frame x.doc.doc s c.in_ok-h.ensures.late c.in_ok-h.ensures.handle shown) c.self.view_is c.gate_of.ensures.row c.judge-verdict.ensures.cost c.take.ensures.cost
