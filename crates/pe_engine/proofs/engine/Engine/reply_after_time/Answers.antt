@@ -26,11 +26,11 @@ returns-in_err-before-clause-cost g c = λ H s at.
     let e = c.args.self.now in
     let x = c.args.stamped.now in
     let idle = c.in_err-before.ensures.idle (replied e.duration H) (still e c.answer.new.self H (timed x.time x.event) c.in-Ok.answer c.of.result s (c.in-Ok.ensures.answered H s) (c.of.ensures ∙ at)) in
-    subst (λ n. IsWithin e.duration (replied e.duration H) x.time x.event _ n) (sym idle) (c.in-Ok.ensures.cost H s)
+    subst (λ n. IsWithin e.duration (replied e.duration H) x.time x.event c.args.steps.now n) (sym idle) (c.in-Ok.ensures.cost H s)
 
 pub returns-clause-cost : goal.returns-clause-cost
 returns-clause-cost g c = λ H s at.
     let e = c.args.self.now in
     let x = c.args.stamped.now in
     let idle = c.in_ok-before.ensures.idle (replied e.duration H) (still e c.answer.new.self H (timed x.time x.event) c.in-Ok.answer c.of.result s (c.in-Ok.ensures.answered H s) (c.of.ensures ∙ at)) in
-    subst (λ n. IsWithin e.duration (replied e.duration H) x.time x.event _ n) (sym idle) (c.in-Ok.ensures.cost H s)
+    subst (λ n. IsWithin e.duration (replied e.duration H) x.time x.event c.args.steps.now n) (sym idle) (c.in-Ok.ensures.cost H s)

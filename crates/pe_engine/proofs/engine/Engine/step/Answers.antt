@@ -31,7 +31,7 @@ pub returns-clause-muted : goal.returns-clause-muted
 returns-clause-muted g c = λ H top s. c.isolation_laws.ensures.regular c.args.self.now.duration top H s.regular
 
 pub returns-clause-policy_cost : goal.returns-clause-policy_cost
-returns-clause-policy_cost g c = λ H frame name s at is. subst (λ x. IsWithin c.args.self.now.duration (replied c.args.self.now.duration H) c.args.stamped.now.time x _ _) is (c.reply.ensures.cost H s at)
+returns-clause-policy_cost g c = λ H frame name s at is. subst (λ x. IsWithin c.args.self.now.duration (replied c.args.self.now.duration H) c.args.stamped.now.time x c.args.steps.now c.reply.new.steps) is (c.reply.ensures.cost H s at)
 
 pub returns-clause-use_cost : goal.returns-clause-use_cost
-returns-clause-use_cost g c = λ H frame name s at is. subst (λ x. IsWithin c.args.self.now.duration (replied c.args.self.now.duration H) c.args.stamped.now.time x _ _) is (c.reply.ensures.cost H s at)
+returns-clause-use_cost g c = λ H frame name s at is. subst (λ x. IsWithin c.args.self.now.duration (replied c.args.self.now.duration H) c.args.stamped.now.time x c.args.steps.now c.reply.new.steps) is (c.reply.ensures.cost H s at)
