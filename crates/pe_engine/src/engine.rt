@@ -67,7 +67,8 @@ impl Engine {
     ghost use Rattle.pe_rules.specs.History.{History};
     ghost use Rattle.pe_engine.specs.StandsFor.{StandsFor};
 
-    /// An engine with no events, whose transient activation lasts for so many milliseconds.
+    /// An engine with no events. Transient activation (HTML Standard, "transient activation duration") and a
+    /// delegated capability last `duration` milliseconds, 1 to 60,000 (`DURATION_LIMIT`). It takes no memory.
     pub fn new(alloc: Global, duration: u32) -> Engine
         requires low { 1 ≤ duration }
         requires high { duration ≤ 60000 }
@@ -89,7 +90,8 @@ impl Engine {
         }
     }
 
-    /// Whether memory wanted in an earlier call. Every later one answers that it wants.
+    /// Whether an earlier `step` wanted memory. Every later `step` then answers `AllocError`, and nothing is
+    /// said of `decide`.
     pub fn failed(&self) -> bool
         ensures { result ≡ self.now.failed }
     {

@@ -203,7 +203,8 @@ impl Engine {
     }
 
     /// Takes an event. It is accepted, and answered after those before it, or refused for the first
-    /// cause that applies, which changes nothing. `AllocError` where memory wants, now or in an earlier call.
+    /// cause that applies, which changes nothing. A refusal is `Ok` with `Answer::Refused`; both lists are
+    /// then empty. `AllocError` where memory wants, now or in an earlier call.
     pub fn step<L: Ledger>(
         &mut self,
         stamped: &Stamped<'_>,
