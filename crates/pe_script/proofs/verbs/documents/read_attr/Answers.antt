@@ -2,4 +2,4 @@ use Rattle.pe_script.proofs.VerbWords.{attr-is}
 use Rattle.pe_script.proofs.verbs.documents.read_attr.Goals as goal
 
 pub returns : goal.returns
-returns c = attr-is c.args.words c.in_ok-frame.frame c.in_ok-frame.name c.in_ok-frame.value c.in_ok-frame-2.frame c.in_ok-name.name c.text_unless.result c.in_ok-frame.ensures c.in_ok-frame-2.ensures c.in_ok-name.ensures c.text_unless.ensures
+returns c = attr-is c.args.words.words c.in-Some.frame c.in-Some.name c.in-Some.value c.in-Some-object.frame c.in-Some-attribute_name.name c.in_ok-value.value c.in-Some.ensures c.in-Some-object.ensures c.in-Some-attribute_name.ensures c.in_ok-value.ensures
