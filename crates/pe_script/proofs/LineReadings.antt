@@ -1,5 +1,5 @@
 -- The reading of a line, by its bytes and its words.
-use Rattle.std.proofs.Common.{◌≡◌, ℕ, suc, ◌+◌, ◌<◌, ◌≤◌, true, false, ◌==◌, List, [], ◌∷◌, length, drop, get_or, Option, Some, None, option_map, unwrap_or, refl, sym, ◌∙◌, ap, add-one, Result, Ok, Err, subst, inl, inr}
+use Rattle.std.proofs.Common.{◌≡◌, ℕ, suc, ◌+◌, ◌<◌, ◌≤◌, true, false, ◌==◌, List, [], ◌∷◌, length, drop, get_or, Option, Some, None, option_map, unwrap_or, refl, sym, ◌∙◌, ap, add-one, Result, Ok, Err, IsErrAnd, subst, inl, inr}
 use Rattle.std.specs.Prelude.{All, option_and_then, ◌⊎◌, IfOk, IfNone, IfSome, IsErrOf, IsOkAnd, IsSomeAnd}
 use Rattle.std.proofs.Math.Seq.{drop-cons}
 use Rattle.std.proofs.lemmas.List.{drop_all}
@@ -98,7 +98,7 @@ no-verb-on (Some ws) first second e =
     ∙ no-event (option_and_then time_of (bare first))
 
 pub no-verb : (words more rest : Option (List Word)) (first second : Word) → words ≡ option_map (λ ws. first ∷ ws) more → more ≡ option_map (λ ws. second ∷ ws) rest → None ≡ keyword_in verbs second → option_and_then timed_of words ≡ None
-no-verb words more rest first second next then e = ap (option_and_then timed_of) (next ∙ ap (option_map (λ ws. first ∷ ws)) then) ∙ no-verb-on rest first second e
+no-verb words more rest first second next after e = ap (option_and_then timed_of) (next ∙ ap (option_map (λ ws. first ∷ ws)) after) ∙ no-verb-on rest first second e
 
 head-on : (rest : Option (List Word)) (first second : Word) (t : ℕ) (verb : Verb) → Some t ≡ option_and_then time_of (bare first) → Some (reader_of verb) ≡ keyword_in verbs second
     → option_and_then timed_of (option_map (λ ws. first ∷ ws) (option_map (λ ws. second ∷ ws) rest)) ≡ option_map (timed t) (option_and_then (reader_of verb) rest)
@@ -110,15 +110,20 @@ head-on (Some ws) first second t verb is-time is-verb =
 
 pub head-is : (words more rest : Option (List Word)) (first second : Word) (t : ℕ) (verb : Verb) → words ≡ option_map (λ ws. first ∷ ws) more → more ≡ option_map (λ ws. second ∷ ws) rest
     → Some t ≡ option_and_then time_of (bare first) → Some (reader_of verb) ≡ keyword_in verbs second → option_and_then timed_of words ≡ option_map (timed t) (option_and_then (reader_of verb) rest)
-head-is words more rest first second t verb next then is-time is-verb =
-    ap (option_and_then timed_of) (next ∙ ap (option_map (λ ws. first ∷ ws)) then) ∙ head-on rest first second t verb is-time is-verb
+head-is words more rest first second t verb next after is-time is-verb =
+    ap (option_and_then timed_of) (next ∙ ap (option_map (λ ws. first ∷ ws)) after) ∙ head-on rest first second t verb is-time is-verb
 
 -- ---- the answer by what the words behind the verb give
 
-pub fault-answers : (reading : Reading) (said : Option Event) (t : ℕ) (fault : LineFault) → reading ≡ reading_said (option_map (timed t) said) → Gives said (Err fault) → Answers reading (Err fault)
+fault-answers : (reading : Reading) (said : Option Event) (t : ℕ) (why : LineFault) → reading ≡ reading_said (option_map (timed t) said) → Gives said (Err why) → Answers reading (Err why)
 fault-answers reading said t fault.BadByte is given = absurd given
 fault-answers reading said t fault.Syntax is given = is ∙ ap (λ (o : Option Event). reading_said (option_map (timed t) o)) (sym given)
 fault-answers reading said t fault.Memory is given = tt
+
+-- the same of a fault that a `?` gives back
+pub broken-answers : (reading : Reading) (said : Option Event) (t : ℕ) (why : LineFault) (result : Result (Option Stamped) LineFault) → IsErrAnd result (λ e. e ≡ why) → reading ≡ reading_said (option_map (timed t) said) → Gives said (Err why) → Answers reading result
+broken-answers reading said t why (Ok found) is e given = absurd is
+broken-answers reading said t why (Err f) is e given = subst (λ (f : LineFault). Answers reading (Err f)) (sym is) (fault-answers reading said t why e given)
 
 -- what is said fits
 said-fits : (words : List Word) (t : ℕ) (e : Event) → All (λ (word : Word). has_bad_byte word.text ≡ false) words → Some (timed t e) ≡ timed_of words → FitsTimed (timed t e)

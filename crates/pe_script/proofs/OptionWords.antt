@@ -8,6 +8,7 @@ use Rattle.pe_script.specs.Names.{is_keyword, keyword_in}
 use Rattle.pe_script.specs.Verbs.{OptionName, Options, no_options, option_names, with_name, with_word, options, only_header, headers}
 use Rattle.pe_script.specs.declared.options.OptionName.{OptionName as Name}
 use Rattle.pe_script.specs.OptionSteps.{option_step, settled, options_from, options_left, if_taken, told_name, with_option}
+use Rattle.pe_script.proofs.Takes.{behind}
 
 -- a bare word that is a keyword
 pub keyword-bare : (k : List ℕ) (w : Word) → is_keyword k w ≡ true → bare w ≡ Some k
@@ -104,10 +105,6 @@ text-on given new word text words left option taken none f s is next put =
 
 -- ---- the same where what is left may be no list of words
 
--- the words that are left, with a word in front
-abbrev pub behind : Word → Option (List Word) → Option (List Word)
-behind word words = option_map (λ more. word ∷ more) words
-
 pub left-none : (words : Option (List Word)) → options_left None words ≡ None
 left-none None = refl
 left-none (Some words) = options-none words
@@ -134,7 +131,7 @@ name-unknown given word (Some words) none f s is = unknown-on given word words n
 pub text-missing : (given : Options) (word : Word) (words left : Option (List Word)) (name : OptionName) → given.waiting ≡ None → is_keyword (codes "fullscreen") word ≡ false → is_keyword (codes "srcdoc") word ≡ false
     → Some name ≡ keyword_in option_names word → (words ≡ None) ⊎ (words ≡ Some []) → options_left (Some given) (behind word words) ≡ options_left None left
 text-missing given word None left name none f s is empty = sym (left-none left)
-text-missing given word (Some []) left name none f s is empty = missing-on given word [] [] name none f s is refl ∙ sym (left-none left)
+text-missing given word (Some []) left name none f s is empty = missing-on given word [] [] name none f s is refl ∙ options-none [] ∙ sym (left-none left)
 text-missing given word (Some (next ∷ words)) left name none f s is (inl empty) = cc
 text-missing given word (Some (next ∷ words)) left name none f s is (inr empty) = cc
 

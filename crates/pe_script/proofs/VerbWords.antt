@@ -1,83 +1,37 @@
 -- What the words behind a verb say, by the words that the code takes.
-use Rattle.std.proofs.Common.{◌≡◌, ℕ, Bool, true, false, List, [], ◌∷◌, Option, Some, None, option_map, option_and_then, refl, sym, ◌∙◌, ap, codes, if◌then◌else◌, Result, Err, subst}
+use Rattle.std.proofs.Common.{◌≡◌, ℕ, Bool, true, false, List, [], ◌∷◌, Option, Some, None, option_map, option_and_then, refl, sym, ◌∙◌, ap, codes, if◌then◌else◌, Result, Ok, Err, IsErrAnd, subst}
 use Rattle.pe_base.specs.declared.state.State.{State}
 use Rattle.pe_lines.specs.declared.word.Word.{Word}
-use Rattle.pe_events.specs.declared.event.AttrName.{AttrName}
 use Rattle.pe_events.specs.declared.event.Event.{Event}
+use Rattle.pe_events.specs.declared.event.EventLife.{EventLife}
+use Rattle.pe_events.specs.declared.event.Outcome.{Outcome}
 use Rattle.pe_events.specs.declared.event.Event.TheVariants as event
 use Rattle.pe_script.specs.Numerals.{bare, span_of}
-use Rattle.pe_script.specs.Names.{is_keyword, attribute_names, states, keyword_in}
-use Rattle.pe_script.specs.Verbs.{frame_word, prompt_word, text_unless, options, headers, embedding, lasting_outcomes, read_open, read_embed, read_nav, read_attr, read_post, read_answer, read_outcome, read_life, read_setting, read_set}
+use Rattle.pe_script.specs.Names.{is_keyword, states, keyword_in}
+use Rattle.pe_script.specs.Verbs.{frame_word, prompt_word, text_unless, options, headers, embedding, lasting_outcomes, read_open, read_embed, read_nav, read_answer, read_outcome, read_life, read_setting, read_set}
 use Rattle.pe_script.specs.declared.reading.LineFault.{LineFault}
 use Rattle.pe_script.specs.declared.reading.LineFault.TheVariants as fault
 use Rattle.pe_script.specs.Answering.{Gives}
-use Rattle.pe_script.specs.Taking.{three, four, span_given, setting_words}
+use Rattle.pe_script.specs.Taking.{span_given, setting_words}
 use Rattle.pe_script.specs.declared.verbs.permissions.SettingWords.{SettingWords}
-
--- the words that were taken, as a list
-abbrev pub three_list : Option (Word × Word × Word) → List Word
-three_list None = []
-three_list (Some ws) = ws.0 ∷ ws.1 ∷ ws.2 ∷ []
-
-abbrev pub four_list : Option (Word × Word × Word × Word) → List Word
-four_list None = []
-four_list (Some ws) = ws.0 ∷ ws.1 ∷ ws.2 ∷ ws.3 ∷ []
-
-three-is : (words : List Word) (a b c : Word) → Some (a, b, c) ≡ three words → words ≡ a ∷ b ∷ c ∷ []
-three-is [] a b c e = cc
-three-is (x ∷ []) a b c e = cc
-three-is (x ∷ y ∷ []) a b c e = cc
-three-is (x ∷ y ∷ z ∷ []) a b c e = sym (ap three_list e)
-three-is (x ∷ y ∷ z ∷ w ∷ more) a b c e = cc
-
-four-is : (words : List Word) (a b c d : Word) → Some (a, b, c, d) ≡ four words → words ≡ a ∷ b ∷ c ∷ d ∷ []
-four-is [] a b c d e = cc
-four-is (x ∷ []) a b c d e = cc
-four-is (x ∷ y ∷ []) a b c d e = cc
-four-is (x ∷ y ∷ z ∷ []) a b c d e = cc
-four-is (x ∷ y ∷ z ∷ w ∷ []) a b c d e = sym (ap four_list e)
-four-is (x ∷ y ∷ z ∷ w ∷ v ∷ more) a b c d e = cc
-
--- the words that are left, where so many were taken
-pub three-left : (words : Option (List Word)) (a b c : Word) → Some (a, b, c) ≡ option_and_then three words → words ≡ Some (a ∷ b ∷ c ∷ [])
-three-left None a b c e = cc
-three-left (Some ws) a b c e = ap Some (three-is ws a b c e)
-
-pub four-left : (words : Option (List Word)) (a b c d : Word) → Some (a, b, c, d) ≡ option_and_then four words → words ≡ Some (a ∷ b ∷ c ∷ d ∷ [])
-four-left None a b c d e = cc
-four-left (Some ws) a b c d e = ap Some (four-is ws a b c d e)
-
-pub attr-is : (words : Option (List Word)) (frame name value : Word) (f : ℕ) (n : AttrName) (v : Option (List ℕ)) → Some (frame, name, value) ≡ option_and_then three words
-    → Some f ≡ frame_word frame → Some n ≡ keyword_in attribute_names name → v ≡ text_unless (codes "none") value → Some (event.Attr f n v) ≡ option_and_then read_attr words
-attr-is words frame name value f n v taken is-frame is-name is-value =
-    ap (λ (o : Option (List ℕ)). Some (event.Attr f n o)) is-value
-    ∙ ap (option_map (λ n. event.Attr f n (text_unless (codes "none") value))) is-name
-    ∙ ap (option_and_then (λ f. option_map (λ n. event.Attr f n (text_unless (codes "none") value)) (keyword_in attribute_names name))) is-frame
-    ∙ ap (option_and_then read_attr) (sym (three-left words frame name value taken))
-
-pub post-is : (words : Option (List Word)) (sender target named capability : Word) (f g : ℕ) (o : Option (List ℕ)) (t : List ℕ) → Some (sender, target, named, capability) ≡ option_and_then four words
-    → Some f ≡ frame_word sender → Some g ≡ frame_word target → Some t ≡ bare capability → o ≡ text_unless (codes "*") named → Some (event.Post f g o t) ≡ option_and_then read_post words
-post-is words sender target named capability f g o t taken is-sender is-target is-capability is-named =
-    ap (λ (o : Option (List ℕ)). Some (event.Post f g o t)) is-named
-    ∙ ap (option_map (event.Post f g (text_unless (codes "*") named))) is-capability
-    ∙ ap (option_and_then (λ g. option_map (event.Post f g (text_unless (codes "*") named)) (bare capability))) is-target
-    ∙ ap (option_and_then (λ f. option_and_then (λ g. option_map (event.Post f g (text_unless (codes "*") named)) (bare capability)) (frame_word target))) is-sender
-    ∙ ap (option_and_then read_post) (sym (four-left words sender target named capability taken))
+use Rattle.pe_script.proofs.Takes.{behind}
 
 -- ---- answers that follow from others
 
 pub gives_same : {A : Type 0} (said other : Option A) (result : Result A LineFault) → other ≡ said → Gives other result → Gives said result
 gives_same {A = A} said other result e h = subst (λ (o : Option A). Gives o result) e h
 
-pub gives_fault : {A B : Type 0} (said : Option A) (other : Option B) (fault : LineFault) → (None ≡ said → None ≡ other) → Gives said (Err fault) → Gives other (Err fault)
+gives_fault : {A B : Type 0} (said : Option A) (other : Option B) (why : LineFault) → (None ≡ said → None ≡ other) → Gives said (Err why) → Gives other (Err why)
 gives_fault said other fault.BadByte h given = given
 gives_fault said other fault.Syntax h given = h given
 gives_fault said other fault.Memory h given = tt
 
--- ---- the words behind a verb, one taken after another
+-- the fault of a call that a `?` gives back
+pub gives_broken : {A B : Type 0} (said : Option A) (other : Option B) (why : LineFault) (result : Result B LineFault) → IsErrAnd result (λ e. e ≡ why) → (None ≡ said → None ≡ other) → Gives said (Err why) → Gives other result
+gives_broken said other why (Ok value) is h given = absurd is
+gives_broken said other why (Err e) is h given = subst (λ (f : LineFault). Gives other (Err f)) (sym is) (gives_fault said other why h given)
 
-abbrev pub behind : Word → Option (List Word) → Option (List Word)
-behind word words = option_map (λ more. word ∷ more) words
+-- ---- the words behind a verb, one taken after another
 
 pub open_left : (url : Word) (more : Option (List Word)) → option_and_then read_open (behind url more) ≡ option_map (event.OpenPage url.text) (option_and_then headers more)
 open_left url None = refl
@@ -105,21 +59,21 @@ embed_none_by frame src None e = refl
 embed_none_by frame src (Some more) e = ap (option_and_then (λ f. option_and_then (embedding f (text_unless (codes "none") src)) (options more))) e
 
 pub embed_none : (words more rest : Option (List Word)) (frame src : Word) → words ≡ behind frame more → more ≡ behind src rest → None ≡ frame_word frame → None ≡ option_and_then read_embed words
-embed_none words more rest frame src next then e = embed_none_by frame src rest e ∙ sym (ap (option_and_then read_embed) (next ∙ ap (behind frame) then))
+embed_none words more rest frame src next after e = embed_none_by frame src rest e ∙ sym (ap (option_and_then read_embed) (next ∙ ap (behind frame) after))
 
 nav_none_by : (frame url : Word) (more : Option (List Word)) → None ≡ frame_word frame → None ≡ option_and_then read_nav (behind frame (behind url more))
 nav_none_by frame url None e = refl
 nav_none_by frame url (Some more) e = ap (option_and_then (λ f. option_map (event.Navigate f url.text) (headers more))) e
 
 pub nav_none : (words more rest : Option (List Word)) (frame url : Word) → words ≡ behind frame more → more ≡ behind url rest → None ≡ frame_word frame → None ≡ option_and_then read_nav words
-nav_none words more rest frame url next then e = nav_none_by frame url rest e ∙ sym (ap (option_and_then read_nav) (next ∙ ap (behind frame) then))
+nav_none words more rest frame url next after e = nav_none_by frame url rest e ∙ sym (ap (option_and_then read_nav) (next ∙ ap (behind frame) after))
 
 answer_none_by : (prompt word : Word) (more : Option (List Word)) → None ≡ prompt_word prompt → None ≡ option_and_then read_answer (behind prompt (behind word more))
 answer_none_by prompt word None e = refl
 answer_none_by prompt word (Some more) e = ap (option_and_then (λ p. read_outcome p word more)) e
 
 pub answer_none : (words more rest : Option (List Word)) (prompt word : Word) → words ≡ behind prompt more → more ≡ behind word rest → None ≡ prompt_word prompt → None ≡ option_and_then read_answer words
-answer_none words more rest prompt word next then e = answer_none_by prompt word rest e ∙ sym (ap (option_and_then read_answer) (next ∙ ap (behind prompt) then))
+answer_none words more rest prompt word next after e = answer_none_by prompt word rest e ∙ sym (ap (option_and_then read_answer) (next ∙ ap (behind prompt) after))
 
 set_none_by : (feature : Word) (more : Option (List Word)) → None ≡ bare feature → None ≡ option_and_then read_set (behind feature more)
 set_none_by feature None e = refl
@@ -128,15 +82,26 @@ set_none_by feature (Some more) e = ap (option_and_then (λ f. read_setting f mo
 pub set_none : (words more : Option (List Word)) (feature : Word) → words ≡ behind feature more → None ≡ bare feature → None ≡ option_and_then read_set words
 set_none words more feature next e = set_none_by feature more e ∙ sym (ap (option_and_then read_set) next)
 
-no-outcome : {A : Type 0} (o : Option A) → None ≡ option_and_then (λ (a : A). None) o
-no-outcome None = refl
-no-outcome (Some a) = refl
+no-outcome : {A B : Type 0} (f : A → Option B) (o : Option A) → ((a : A) → None ≡ f a) → None ≡ option_and_then f o
+no-outcome f None none = refl
+no-outcome f (Some a) none = none a
 
 pub outcome_left : (prompt : ℕ) (word : Word) (words : Option (List Word)) → (words ≡ Some [] → ⊥)
     → option_and_then (read_outcome prompt word) words ≡ option_and_then (λ out. option_map (event.Answered prompt out) (option_and_then read_life words)) (keyword_in lasting_outcomes word)
-outcome_left prompt word None some = no-outcome (keyword_in lasting_outcomes word)
+outcome_left prompt word None some = no-outcome (λ (out : Outcome). option_map (event.Answered prompt out) (option_and_then read_life None)) (keyword_in lasting_outcomes word) (λ out. refl)
 outcome_left prompt word (Some []) some = absurd (some refl)
 outcome_left prompt word (Some (w ∷ more)) some = refl
+
+pub outcome_is : (prompt : ℕ) (word : Word) (words : Option (List Word)) (out : Outcome) (lives : Option EventLife) → (words ≡ Some [] → ⊥) → Some out ≡ keyword_in lasting_outcomes word → lives ≡ option_and_then read_life words
+    → option_map (event.Answered prompt out) lives ≡ option_and_then (read_outcome prompt word) words
+outcome_is prompt word words out lives some is-out is-life =
+    ap (option_map (event.Answered prompt out)) is-life
+    ∙ ap (option_and_then (λ out. option_map (event.Answered prompt out) (option_and_then read_life words))) is-out
+    ∙ sym (outcome_left prompt word words some)
+
+pub outcome_none : (prompt : ℕ) (word : Word) (words : Option (List Word)) → (words ≡ Some [] → ⊥) → None ≡ keyword_in lasting_outcomes word → None ≡ option_and_then (read_outcome prompt word) words
+outcome_none prompt word words some none =
+    ap (option_and_then (λ out. option_map (event.Answered prompt out) (option_and_then read_life words))) none ∙ sym (outcome_left prompt word words some)
 
 -- ---- what stands behind the feature of `set`
 

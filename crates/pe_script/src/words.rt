@@ -5,7 +5,6 @@ ghost use Rattle.pe_script.specs.Taking.{one, two, three, four};
 use pe_lines::{WordReader, WordSpan};
 
 /// The word, where there is one.
-#[tactic(auto, using(crate::proofs::Takes::nothing_of, crate::proofs::Takes::one_is, crate::proofs::Takes::one_none))]
 pub fn one<'a>(mut words: WordReader<'a>) -> Option<WordSpan<'a>>
     ensures { result ≡ option_and_then one words.entry.words }
 {
@@ -17,7 +16,6 @@ pub fn one<'a>(mut words: WordReader<'a>) -> Option<WordSpan<'a>>
 }
 
 /// The words, where there are two.
-#[tactic(auto, using(crate::proofs::Takes::nothing_of, crate::proofs::Takes::two_left))]
 pub fn two<'a>(mut words: WordReader<'a>) -> Option<(WordSpan<'a>, WordSpan<'a>)>
     ensures { result ≡ option_and_then two words.entry.words }
 {
@@ -27,7 +25,6 @@ pub fn two<'a>(mut words: WordReader<'a>) -> Option<(WordSpan<'a>, WordSpan<'a>)
 }
 
 /// The words, where there are three.
-#[tactic(auto, using(crate::proofs::Takes::nothing_of, crate::proofs::Takes::three_left))]
 pub fn three<'a>(mut words: WordReader<'a>) -> Option<(WordSpan<'a>, WordSpan<'a>, WordSpan<'a>)>
     ensures { result ≡ option_and_then three words.entry.words }
 {
@@ -37,7 +34,6 @@ pub fn three<'a>(mut words: WordReader<'a>) -> Option<(WordSpan<'a>, WordSpan<'a
 }
 
 /// The words, where there are four.
-#[tactic(auto, using(crate::proofs::Takes::nothing_of, crate::proofs::Takes::four_left))]
 pub fn four<'a>(
     mut words: WordReader<'a>,
 ) -> Option<(WordSpan<'a>, WordSpan<'a>, WordSpan<'a>, WordSpan<'a>)>

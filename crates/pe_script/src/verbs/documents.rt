@@ -67,7 +67,6 @@ pub fn read_nav<'a>(alloc: Global, mut words: WordReader<'a>) -> Result<Event<'a
 }
 
 /// `attr F NAME VALUE`, where the bare `none` removes the attribute.
-#[tactic(auto, using(crate::proofs::Takes::attr_left))]
 pub fn read_attr<'a>(alloc: Global, words: WordReader<'a>) -> Result<Event<'a>, LineFault>
     ensures { Gives (option_and_then read_attr words.entry.words) result }
 {

@@ -13,7 +13,6 @@ use pe_events::Event;
 use pe_lines::{Text, WordReader};
 
 /// The frame that a verb has behind it, and nothing else.
-#[tactic(auto, using(crate::proofs::Takes::on_frame_left))]
 fn frame_alone(words: WordReader<'_>) -> Option<u32>
     ensures { (make : ℕ → Event) → option_map make result ≡ option_and_then (read_on_frame make) words.entry.words }
 {
@@ -21,7 +20,6 @@ fn frame_alone(words: WordReader<'_>) -> Option<u32>
 }
 
 /// The frame and the bare name that a verb has behind it, and nothing else.
-#[tactic(auto, using(crate::proofs::Takes::with_name_left))]
 fn frame_and_name<'a>(words: WordReader<'a>) -> Option<(u32, Text<'a>)>
     ensures { (make : ℕ → List ℕ → Event) → option_map (λ pair. make pair.0 pair.1) result ≡ option_and_then (read_with_name make) words.entry.words }
 {
@@ -112,7 +110,6 @@ pub fn read_request<'a>(words: WordReader<'a>) -> Result<Event<'a>, LineFault>
 }
 
 /// `input F KIND`.
-#[tactic(auto, using(crate::proofs::Takes::input_left))]
 pub fn read_input<'a>(words: WordReader<'a>) -> Result<Event<'a>, LineFault>
     ensures { Gives (option_and_then read_input words.entry.words) result }
 {

@@ -12,7 +12,6 @@ use pe_lines::WordReader;
 use std::alloc::Global;
 
 /// `post F G ORIGIN CAPABILITY`, where the bare `*` is any origin.
-#[tactic(auto, using(crate::proofs::Takes::post_left))]
 pub fn read_post<'a>(alloc: Global, words: WordReader<'a>) -> Result<Event<'a>, LineFault>
     ensures { Gives (option_and_then read_post words.entry.words) result }
 {
@@ -40,7 +39,6 @@ pub fn read_post<'a>(alloc: Global, words: WordReader<'a>) -> Result<Event<'a>, 
 }
 
 /// `deliver M`.
-#[tactic(auto, using(crate::proofs::Takes::deliver_left))]
 pub fn read_deliver<'a>(words: WordReader<'a>) -> Result<Event<'a>, LineFault>
     ensures { Gives (option_and_then read_deliver words.entry.words) result }
 {

@@ -3,7 +3,7 @@ ghost use Rattle.std.specs.Prelude.{◌≡◌, ◌∷◌, [], IfOk, option_and_t
 ghost use Rattle.pe_lines.specs.declared.word.Word.{Word};
 ghost use Rattle.pe_script.specs.Answering.{Gives};
 ghost use Rattle.pe_script.specs.Verbs.{read_drop, read_life, read_outcome, read_answer, read_setting, read_set};
-ghost use Rattle.pe_script.specs.Taking.{span_for, SettingWords, setting_words, span_given};
+ghost use Rattle.pe_script.specs.Taking.{span_for, setting_words, span_given};
 
 use crate::names::{bare_text, is_keyword, lasting_outcome, state};
 use crate::numerals::{object, span};
@@ -15,7 +15,6 @@ use pe_lines::{Text, WordReader, WordSpan};
 use std::alloc::{AllocError, Global};
 
 /// `drop S`.
-#[tactic(auto, using(crate::proofs::Takes::drop_left))]
 pub fn read_drop<'a>(words: WordReader<'a>) -> Result<Event<'a>, LineFault>
     ensures { Gives (option_and_then read_drop words.entry.words) result }
 {
@@ -49,7 +48,6 @@ fn span_for(keyword: &WordSpan<'_>, ms: &WordSpan<'_>) -> Option<u64>
 }
 
 /// LIFE: nothing, `once` or `for MS`.
-#[tactic(auto, using(crate::proofs::Takes::stuck_here, crate::proofs::Takes::life_left))]
 fn read_life(mut words: WordReader<'_>) -> Option<EventLife>
     ensures { result ≡ option_and_then read_life words.entry.words }
 {
@@ -86,7 +84,6 @@ fn outcome_alone<'a>(prompt: u32, word: &WordSpan<'_>) -> Result<Event<'a>, Line
 }
 
 /// What a prompt is answered: `allow` or `block` with a life, or `dismiss` alone.
-#[tactic(auto, using(crate::proofs::VerbWords::outcome_left))]
 fn read_outcome<'a>(
     prompt: u32,
     word: &WordSpan<'_>,
@@ -135,7 +132,6 @@ struct SettingWords<'a> {
 }
 
 /// The words behind the first origin: a second one or none, a state, and `for MS` or nothing.
-#[tactic(auto, using(crate::proofs::Takes::nothing_of, crate::proofs::Takes::stuck_behind, crate::proofs::Takes::stuck_behind_two, crate::proofs::Takes::four_of_setting))]
 fn setting_words<'a>(mut words: WordReader<'a>) -> Option<SettingWords<'a>>
     ensures { result ≡ option_and_then setting_words words.entry.words }
 {

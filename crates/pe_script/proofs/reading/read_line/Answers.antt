@@ -3,7 +3,7 @@ use Rattle.std.specs.Prelude.{option_and_then}
 use Rattle.pe_lines.specs.Words.{words_of}
 use Rattle.pe_script.specs.Reading.{timed_of}
 use Rattle.pe_script.specs.Answering.{timed}
-use Rattle.pe_script.proofs.LineReadings.{reading-of-bad-byte, reading-by-words, fault-answers, fits-by-words}
+use Rattle.pe_script.proofs.LineReadings.{reading-of-bad-byte, reading-by-words, broken-answers, fits-by-words}
 use Rattle.pe_script.proofs.reading.read_line.Goals as goal
 
 pub returns-in_default : goal.returns-in_default
@@ -17,7 +17,7 @@ returns-in_default-read_head c =
 pub returns-in_err-event : goal.returns-in_err-event
 returns-in_err-event c =
     let head = ap (option_and_then timed_of) (sym c.in-Some.ensures.words) ∙ c.in-Some-read_head.ensures in
-    rw c.from_residual.ensures (fault-answers _ _ c.in-Some-read_head.time c.in_err-event.field-0 (reading-by-words c.args.line.now _ c.requires c.in-Some.ensures.good head) c.in_err-event.ensures)
+    broken-answers _ _ c.in-Some-read_head.time c.in_err-event.field-0 c.from_residual.result c.from_residual.ensures.1 (reading-by-words c.args.line.now _ c.requires c.in-Some.ensures.good head) c.in_err-event.ensures
 
 pub invariant_of-result : goal.invariant_of-result
 invariant_of-result c =

@@ -1,7 +1,7 @@
 use Rattle.std.proofs.Common.{refl, sym, ap, ◌∙◌, option_and_then}
 use Rattle.pe_script.specs.Verbs.{read_embed, embedding}
-use Rattle.pe_script.proofs.Takes.{nothing_of, nothing_behind}
-use Rattle.pe_script.proofs.VerbWords.{behind, embed_left, gives_same, gives_fault, embed_none}
+use Rattle.pe_script.proofs.Takes.{behind, nothing_of, nothing_behind}
+use Rattle.pe_script.proofs.VerbWords.{embed_left, gives_same, gives_broken, embed_none}
 use Rattle.pe_script.proofs.verbs.documents.read_embed.Goals as goal
 
 pub returns-in_default : goal.returns-in_default
@@ -16,7 +16,7 @@ returns-in_default-object c = embed_none c.args.words.words _ _ c.in-Some.frame 
 pub returns-in_err-given : goal.returns-in_err-given
 returns-in_err-given c =
     let left = ap (option_and_then read_embed) (c.in-Some.ensures.word ∙ ap (behind c.in-Some.frame) c.in-Some-next.ensures.word) ∙ embed_left c.in-Some.frame c.in-Some-next.src _ c.in-Some-object.parent c.in-Some-object.ensures in
-    rw c.from_residual.ensures (gives_fault _ _ c.in_err-given.field-0 (λ none. ap (option_and_then (embedding c.in-Some-object.parent _)) none ∙ sym left) c.in_err-given.ensures)
+    gives_broken _ _ c.in_err-given.field-0 c.from_residual.result c.from_residual.ensures.1 (λ none. ap (option_and_then (embedding c.in-Some-object.parent _)) none ∙ sym left) c.in_err-given.ensures
 
 pub returns : goal.returns
 returns c =

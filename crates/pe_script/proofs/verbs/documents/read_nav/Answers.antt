@@ -1,8 +1,8 @@
 use Rattle.std.proofs.Common.{refl, Some, sym, ap, ◌∙◌, option_and_then, option_map}
 use Rattle.pe_events.specs.declared.event.Event.TheVariants as event
 use Rattle.pe_script.specs.Verbs.{read_nav}
-use Rattle.pe_script.proofs.Takes.{nothing_of, nothing_behind}
-use Rattle.pe_script.proofs.VerbWords.{behind, nav_left, gives_fault, nav_none}
+use Rattle.pe_script.proofs.Takes.{behind, nothing_of, nothing_behind}
+use Rattle.pe_script.proofs.VerbWords.{nav_left, gives_broken, nav_none}
 use Rattle.pe_script.proofs.verbs.documents.read_nav.Goals as goal
 
 pub returns-in_default : goal.returns-in_default
@@ -17,7 +17,7 @@ returns-in_default-object c = nav_none c.args.words.words _ _ c.in-Some.frame c.
 pub returns-in_err-header : goal.returns-in_err-header
 returns-in_err-header c =
     let left = ap (option_and_then read_nav) (c.in-Some.ensures.word ∙ ap (behind c.in-Some.frame) c.in-Some-next.ensures.word) ∙ nav_left c.in-Some.frame c.in-Some-next.url _ c.in-Some-object.frame c.in-Some-object.ensures in
-    rw c.from_residual.ensures (gives_fault _ _ c.in_err-header.field-0 (λ none. ap (option_map (event.Navigate c.in-Some-object.frame c.in-Some-next.url.text)) none ∙ sym left) c.in_err-header.ensures)
+    gives_broken _ _ c.in_err-header.field-0 c.from_residual.result c.from_residual.ensures.1 (λ none. ap (option_map (event.Navigate c.in-Some-object.frame c.in-Some-next.url.text)) none ∙ sym left) c.in_err-header.ensures
 
 pub returns : goal.returns
 returns c =

@@ -2,7 +2,7 @@ use Rattle.std.proofs.Common.{refl, Some, sym, ap, ◌∙◌, option_and_then, o
 use Rattle.pe_events.specs.declared.event.Event.TheVariants as event
 use Rattle.pe_script.specs.Verbs.{read_open}
 use Rattle.pe_script.proofs.Takes.{nothing_of}
-use Rattle.pe_script.proofs.VerbWords.{open_left, gives_fault}
+use Rattle.pe_script.proofs.VerbWords.{open_left, gives_broken}
 use Rattle.pe_script.proofs.verbs.documents.read_open.Goals as goal
 
 pub returns-in_default : goal.returns-in_default
@@ -11,7 +11,7 @@ returns-in_default c = nothing_of read_open c.args.words.words refl c.in_default
 pub returns-in_err-header : goal.returns-in_err-header
 returns-in_err-header c =
     let left = ap (option_and_then read_open) c.in-Some.ensures.word ∙ open_left c.in-Some.url _ in
-    rw c.from_residual.ensures (gives_fault _ _ c.in_err-header.field-0 (λ none. ap (option_map (event.OpenPage c.in-Some.url.text)) none ∙ sym left) c.in_err-header.ensures)
+    gives_broken _ _ c.in_err-header.field-0 c.from_residual.result c.from_residual.ensures.1 (λ none. ap (option_map (event.OpenPage c.in-Some.url.text)) none ∙ sym left) c.in_err-header.ensures
 
 pub returns : goal.returns
 returns c =

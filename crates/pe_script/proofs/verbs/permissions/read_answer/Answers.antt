@@ -1,7 +1,7 @@
 use Rattle.std.proofs.Common.{refl, sym, ap, ◌∙◌, option_and_then}
 use Rattle.pe_script.specs.Verbs.{read_answer}
-use Rattle.pe_script.proofs.Takes.{nothing_of, nothing_behind}
-use Rattle.pe_script.proofs.VerbWords.{behind, answer_left, gives_same, answer_none}
+use Rattle.pe_script.proofs.Takes.{behind, nothing_of, nothing_behind}
+use Rattle.pe_script.proofs.VerbWords.{answer_left, gives_same, answer_none}
 use Rattle.pe_script.proofs.verbs.permissions.read_answer.Goals as goal
 
 pub returns-in_default : goal.returns-in_default
