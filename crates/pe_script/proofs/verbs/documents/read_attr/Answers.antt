@@ -27,4 +27,4 @@ returns c =
     let name = c.in-Some-attribute_name.name in
     ap (λ (o : Option (List ℕ)). Some (event.Attr frame name o)) c.in-Ok.ensures
     ∙ by_some _ (Some (event.Attr frame name (text_unless (codes "none") w.value))) _ attr_of (w.frame, w.name, w.value) (attr_left _) w.ensures
-      (attr_is w.frame w.name w.value frame (Some name) c.in-Some-object.ensures c.in-Some-attribute_name.ensures)
+    (attr_is w.frame w.name w.value frame (Some name) c.in-Some-object.ensures c.in-Some-attribute_name.ensures)

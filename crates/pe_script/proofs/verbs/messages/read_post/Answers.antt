@@ -34,4 +34,4 @@ returns c =
     let text = c.in-Some-bare_text.capability in
     ap (λ (o : Option (List ℕ)). Some (event.Post sender target o text)) c.in-Ok.ensures
     ∙ by_some _ (Some (event.Post sender target (text_unless (codes "*") w.origin) text)) _ post_of (w.sender, w.target, w.origin, w.capability) (post_left _) w.ensures
-      (post_is w.sender w.target w.origin w.capability sender target (Some text) c.in-Some-object.ensures c.in-Some-object-2.ensures c.in-Some-bare_text.ensures)
+    (post_is w.sender w.target w.origin w.capability sender target (Some text) c.in-Some-object.ensures c.in-Some-object-2.ensures c.in-Some-bare_text.ensures)
