@@ -85,7 +85,7 @@ four_left (Some words) first = four_by words first
 pub four_is : (words more : Option (List Word)) (first : Word) (taken : Option (Word × Word × Word)) → words ≡ behind first more → taken ≡ option_and_then three more → option_map (λ w. (first, w.0, w.1, w.2)) taken ≡ option_and_then four words
 four_is words more first taken next is = ap (option_map (λ (w : Word × Word × Word). (first, w.0, w.1, w.2))) is ∙ sym (four_left more first) ∙ sym (ap (option_and_then four) next)
 
--- the verbs by the words behind them: a frame alone
+-- the verbs by the words behind them
 abbrev pub frame_alone : (ℕ → Event) → Word → Option Event
 frame_alone make frame = option_map make (frame_word frame)
 
