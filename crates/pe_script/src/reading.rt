@@ -60,7 +60,6 @@ fn is_comment(line: &[u8]) -> bool
 }
 
 /// Whether the line is of blanks alone, or a comment.
-#[tactic(auto, using(crate::proofs::LineReadings::silent_nothing, crate::proofs::LineReadings::silent_other))]
 fn is_silent(line: &[u8]) -> bool
     ensures { result ≡ is_silent line.now }
 {

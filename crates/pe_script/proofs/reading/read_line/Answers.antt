@@ -17,7 +17,7 @@ returns-in_default-read_head c =
 pub returns-in_err-event : goal.returns-in_err-event
 returns-in_err-event c =
     let head = ap (option_and_then timed_of) (sym c.in-Some.ensures.words) ∙ c.in-Some-read_head.ensures in
-    broken-answers _ _ c.in-Some-read_head.time c.in_err-event.field-0 c.from_residual.result c.from_residual.ensures.1 (reading-by-words c.args.line.now _ c.requires c.in-Some.ensures.good head) c.in_err-event.ensures
+    broken-answers _ _ c.in-Some-read_head.time _ c.from_residual.result c.from_residual.ensures.1 (reading-by-words c.args.line.now _ c.requires c.in-Some.ensures.good head) c.in_err-event.ensures
 
 pub invariant_of-result : goal.invariant_of-result
 invariant_of-result c =

@@ -16,7 +16,7 @@ returns-in_default-object c = embed_none c.args.words.words _ _ c.in-Some.frame 
 pub returns-in_err-given : goal.returns-in_err-given
 returns-in_err-given c =
     let left = ap (option_and_then read_embed) (c.in-Some.ensures.word ∙ ap (behind c.in-Some.frame) c.in-Some-next.ensures.word) ∙ embed_left c.in-Some.frame c.in-Some-next.src _ c.in-Some-object.parent c.in-Some-object.ensures in
-    gives_broken _ _ c.in_err-given.field-0 c.from_residual.result c.from_residual.ensures.1 (λ none. ap (option_and_then (embedding c.in-Some-object.parent _)) none ∙ sym left) c.in_err-given.ensures
+    gives_broken _ _ _ c.from_residual.result c.from_residual.ensures.1 (λ none. ap (option_and_then (embedding c.in-Some-object.parent _)) none ∙ sym left) c.in_err-given.ensures
 
 pub returns : goal.returns
 returns c =

@@ -17,7 +17,7 @@ returns-in_default-object c = nav_none c.args.words.words _ _ c.in-Some.frame c.
 pub returns-in_err-header : goal.returns-in_err-header
 returns-in_err-header c =
     let left = ap (option_and_then read_nav) (c.in-Some.ensures.word ∙ ap (behind c.in-Some.frame) c.in-Some-next.ensures.word) ∙ nav_left c.in-Some.frame c.in-Some-next.url _ c.in-Some-object.frame c.in-Some-object.ensures in
-    gives_broken _ _ c.in_err-header.field-0 c.from_residual.result c.from_residual.ensures.1 (λ none. ap (option_map (event.Navigate c.in-Some-object.frame c.in-Some-next.url.text)) none ∙ sym left) c.in_err-header.ensures
+    gives_broken _ _ _ c.from_residual.result c.from_residual.ensures.1 (λ none. ap (option_map (event.Navigate c.in-Some-object.frame c.in-Some-next.url.text)) none ∙ sym left) c.in_err-header.ensures
 
 pub returns : goal.returns
 returns c =

@@ -11,7 +11,7 @@ returns-in_default c = nothing_of read_open c.args.words.words refl c.in_default
 pub returns-in_err-header : goal.returns-in_err-header
 returns-in_err-header c =
     let left = ap (option_and_then read_open) c.in-Some.ensures.word ∙ open_left c.in-Some.url _ in
-    gives_broken _ _ c.in_err-header.field-0 c.from_residual.result c.from_residual.ensures.1 (λ none. ap (option_map (event.OpenPage c.in-Some.url.text)) none ∙ sym left) c.in_err-header.ensures
+    gives_broken _ _ _ c.from_residual.result c.from_residual.ensures.1 (λ none. ap (option_map (event.OpenPage c.in-Some.url.text)) none ∙ sym left) c.in_err-header.ensures
 
 pub returns : goal.returns
 returns c =
