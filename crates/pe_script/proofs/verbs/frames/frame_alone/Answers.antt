@@ -1,4 +1,4 @@
-use Rattle.std.proofs.Common.{Some, ap, ◌∙◌, option_map}
+use Rattle.std.proofs.Common.{ap, ◌∙◌, option_map}
 use Rattle.pe_script.proofs.Takes.{by_none, by_some, frame_alone, on_frame_left}
 use Rattle.pe_script.proofs.verbs.frames.frame_alone.Goals as goal
 

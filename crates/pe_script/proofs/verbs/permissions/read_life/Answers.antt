@@ -1,6 +1,5 @@
-use Rattle.std.proofs.Common.{None, Some, ap, ◌∙◌, option_map}
+use Rattle.std.proofs.Common.{None, Some, ◌∙◌}
 use Rattle.std.proofs.lemmas.Bool.{iff_false}
-use Rattle.pe_events.specs.declared.event.EventLife.TheVariants as life
 use Rattle.pe_script.specs.Verbs.{read_life}
 use Rattle.pe_script.proofs.Takes.{of_none, of_done, of_one, stuck_here, life_is, life_none}
 use Rattle.pe_script.proofs.verbs.permissions.read_life.Goals as goal

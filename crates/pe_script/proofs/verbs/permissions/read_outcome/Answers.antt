@@ -1,4 +1,4 @@
-use Rattle.std.proofs.Common.{None, Some, sym, ap, option_and_then}
+use Rattle.std.proofs.Common.{None, Some}
 use Rattle.std.proofs.lemmas.Bool.{iff_false}
 use Rattle.pe_script.specs.Verbs.{read_outcome}
 use Rattle.pe_script.proofs.Takes.{of_done}
