@@ -1,6 +1,6 @@
 -- The reading of a line, by its bytes and its words.
-use Rattle.std.proofs.Common.{◌≡◌, ℕ, suc, ◌+◌, ◌<◌, ◌≤◌, Bool, true, false, ◌==◌, List, ◌∷◌, length, drop, get_or, Option, Some, None, option_map, unwrap_or, refl, sym, ◌∙◌, ap, add-one, Result, Ok, Err, subst}
-use Rattle.std.specs.Prelude.{All, IfOk, IfNone, IfSome, IsErrOf, IsOkAnd, IsSomeAnd}
+use Rattle.std.proofs.Common.{◌≡◌, ℕ, suc, ◌+◌, ◌<◌, ◌≤◌, true, false, ◌==◌, List, [], ◌∷◌, length, drop, get_or, Option, Some, None, option_map, unwrap_or, refl, sym, ◌∙◌, ap, add-one, Result, Ok, Err, IsErrAnd, subst, inl, inr}
+use Rattle.std.specs.Prelude.{All, option_and_then, ◌⊎◌, IfOk, IfNone, IfSome, IsErrOf, IsOkAnd, IsSomeAnd}
 use Rattle.std.proofs.Math.Seq.{drop-cons}
 use Rattle.std.proofs.lemmas.List.{drop_all}
 use Rattle.pe_lines.specs.declared.word.Word.{Word}
@@ -12,28 +12,41 @@ use Rattle.pe_events.specs.Timed.{Timed}
 use Rattle.pe_script.specs.declared.reading.LineFault.{LineFault}
 use Rattle.pe_script.specs.declared.reading.LineFault.TheVariants as fault
 use Rattle.pe_script.specs.Reading.{Reading, Silent, Refusal, Says, timed_of, reading_of}
-use Rattle.pe_script.specs.Answering.{is_silent, timed, told, UnlessMemory, Answers}
+use Rattle.pe_script.specs.Answering.{is_silent, timed, told, Gives, UnlessMemory, Answers}
+use Rattle.pe_script.specs.declared.names.Verb.{Verb}
+use Rattle.pe_script.specs.Names.{keyword_in}
+use Rattle.pe_script.specs.Numerals.{bare, time_of}
+use Rattle.pe_script.specs.Readers.{reader_of}
+use Rattle.pe_script.specs.Verbs.{verbs, event_of}
 use Rattle.pe_script.proofs.Fits.{IfFound, FitsTimed, timed-fits}
 
 -- ---- a line that is silent, byte by byte
 
-silent-blank : (b : ℕ) (line : List ℕ) → is_blank b ≡ true → is_silent (b ∷ line) ≡ is_silent line
+pub silent_nothing : is_silent [] ≡ true
 unfolding is_blank_line is_comment
-silent-blank b line e = rw e refl
+silent_nothing = refl
 
-silent-other : (b : ℕ) (line : List ℕ) → is_blank b ≡ false → is_silent (b ∷ line) ≡ (b == 35)
+pub silent_other : (b : ℕ) (line : List ℕ) → is_blank b ≡ false → is_silent (b ∷ line) ≡ (b == 35)
 unfolding is_blank_line is_comment
-silent-other b line e = rw e refl
+silent_other b line e = rw e refl
 
-pub silent-end : (line : List ℕ) (i : ℕ) → length line ≤ i → is_silent (drop i line) ≡ true
-unfolding is_blank_line is_comment
-silent-end line i h = rw (drop_all i line h) refl
+comment-blank : (b : ℕ) (line : List ℕ) → is_blank b ≡ true → is_comment (b ∷ line) ≡ is_comment line
+unfolding is_comment
+comment-blank b line e = rw e refl
 
-pub silent-more : (line : List ℕ) (i : ℕ) → i < length line → is_blank (get_or line i 0) ≡ true → is_silent (drop i line) ≡ is_silent (drop (i + 1) line)
-silent-more line i h e = rw (drop-cons line i 0 h) (silent-blank (get_or line i 0) (drop (suc i) line) e ∙ ap (λ n. is_silent (drop n line)) (sym (add-one i)))
+comment-other : (b : ℕ) (line : List ℕ) → is_blank b ≡ false → is_comment (b ∷ line) ≡ (b == 35)
+unfolding is_comment
+comment-other b line e = rw e refl
 
-pub silent-here : (line : List ℕ) (i : ℕ) → i < length line → is_blank (get_or line i 0) ≡ false → is_silent (drop i line) ≡ (get_or line i 0 == 35)
-silent-here line i h e = rw (drop-cons line i 0 h) (silent-other (get_or line i 0) (drop (suc i) line) e)
+pub comment-end : (line : List ℕ) (i : ℕ) → length line ≤ i → is_comment (drop i line) ≡ false
+unfolding is_comment
+comment-end line i h = rw (drop_all i line h) refl
+
+pub comment-more : (line : List ℕ) (i : ℕ) → i < length line → is_blank (get_or line i 0) ≡ true → is_comment (drop i line) ≡ is_comment (drop (i + 1) line)
+comment-more line i h e = rw (drop-cons line i 0 h) (comment-blank (get_or line i 0) (drop (suc i) line) e ∙ ap (λ n. is_comment (drop n line)) (sym (add-one i)))
+
+pub comment-here : (line : List ℕ) (i : ℕ) → i < length line → is_blank (get_or line i 0) ≡ false → is_comment (drop i line) ≡ (get_or line i 0 == 35)
+comment-here line i h e = rw (drop-cons line i 0 h) (comment-other (get_or line i 0) (drop (suc i) line) e)
 
 -- ---- the reading of a line
 
@@ -45,31 +58,80 @@ pub reading-of-bad-byte : (line : List ℕ) → is_silent line ≡ false → has
 unfolding reading_of
 reading-of-bad-byte line silent bad = rw (silent, bad) refl
 
-pub reading-of-no-words : (line : List ℕ) → is_silent line ≡ false → has_bad_byte line ≡ false → words_of line ≡ None → reading_of line ≡ Refusal cause.Syntax
-unfolding reading_of
-reading-of-no-words line silent bad none = rw (silent, bad, none) refl
-
 -- the reading of words by what they say
 abbrev pub reading_said : Option Timed → Reading
 reading_said said = unwrap_or (option_map Says said) (Refusal cause.Syntax)
 
-pub reading-of-words : (line : List ℕ) (words : List Word) (said : Option Timed) → is_silent line ≡ false → has_bad_byte line ≡ false → words_of line ≡ Some words → said ≡ timed_of words
-    → reading_of line ≡ reading_said said
+pub reading-by-words : (line : List ℕ) (said : Option Timed) → is_silent line ≡ false → has_bad_byte line ≡ false → option_and_then timed_of (words_of line) ≡ said → reading_of line ≡ reading_said said
 unfolding reading_of
-reading-of-words line words said silent bad some is = rw (silent, bad, some) (ap reading_said (sym is))
+reading-by-words line said silent bad is = rw (silent, bad) (ap reading_said is)
 
--- the pair that the code reads, as the definitions have it
-abbrev pub said_of : Option (ℕ × Event) → Option Timed
-said_of pair = option_map (λ (p : ℕ × Event). timed p.0 p.1) pair
+-- ---- the time and the verb of a line
 
--- no word has a bad byte where the reader of words found none
-pub not-bad : {V E : Type 0} (b : Bool) (words : V) (fault : E) → (b ≡ true → IsErrOf (Ok words) fault) → b ≡ false
-not-bad false words fault h = refl
-not-bad true words fault h = let never = h refl in cc
+pub no-first : (words : Option (List Word)) → (words ≡ None) ⊎ (words ≡ Some []) → option_and_then timed_of words ≡ None
+unfolding timed_of
+no-first words (inl none) = ap (option_and_then timed_of) none
+no-first words (inr empty) = ap (option_and_then timed_of) empty
+
+no-event : (t : Option ℕ) → option_and_then (λ (t : ℕ). option_map (λ (e : Event). timed t e) None) t ≡ None
+no-event None = refl
+no-event (Some t) = refl
+
+pub no-second : (words more : Option (List Word)) (first : Word) → words ≡ option_map (λ ws. first ∷ ws) more → (more ≡ None) ⊎ (more ≡ Some []) → option_and_then timed_of words ≡ None
+unfolding timed_of event_of
+no-second words more first next (inl none) = ap (option_and_then timed_of) (next ∙ ap (option_map (λ ws. first ∷ ws)) none)
+no-second words more first next (inr empty) = ap (option_and_then timed_of) (next ∙ ap (option_map (λ ws. first ∷ ws)) empty) ∙ no-event (option_and_then time_of (bare first))
+
+no-time-on : (more : Option (List Word)) (first : Word) → None ≡ option_and_then time_of (bare first) → option_and_then timed_of (option_map (λ ws. first ∷ ws) more) ≡ None
+unfolding timed_of
+no-time-on None first e = refl
+no-time-on (Some ws) first e = ap (option_and_then (λ (t : ℕ). option_map (λ (e : Event). timed t e) (event_of ws))) (sym e)
+
+pub no-time : (words more : Option (List Word)) (first : Word) → words ≡ option_map (λ ws. first ∷ ws) more → None ≡ option_and_then time_of (bare first) → option_and_then timed_of words ≡ None
+no-time words more first next e = ap (option_and_then timed_of) next ∙ no-time-on more first e
+
+no-verb-on : (rest : Option (List Word)) (first second : Word) → None ≡ keyword_in verbs second → option_and_then timed_of (option_map (λ ws. first ∷ ws) (option_map (λ ws. second ∷ ws) rest)) ≡ None
+unfolding timed_of event_of
+no-verb-on None first second e = refl
+no-verb-on (Some ws) first second e =
+    ap (λ (o : Option (List Word → Option Event)). option_and_then (λ (t : ℕ). option_map (λ (e : Event). timed t e) (option_and_then (λ read. read ws) o)) (option_and_then time_of (bare first))) (sym e)
+    ∙ no-event (option_and_then time_of (bare first))
+
+pub no-verb : (words more rest : Option (List Word)) (first second : Word) → words ≡ option_map (λ ws. first ∷ ws) more → more ≡ option_map (λ ws. second ∷ ws) rest → None ≡ keyword_in verbs second → option_and_then timed_of words ≡ None
+no-verb words more rest first second next after e = ap (option_and_then timed_of) (next ∙ ap (option_map (λ ws. first ∷ ws)) after) ∙ no-verb-on rest first second e
+
+head-on : (rest : Option (List Word)) (first second : Word) (t : ℕ) (verb : Verb) → Some t ≡ option_and_then time_of (bare first) → Some (reader_of verb) ≡ keyword_in verbs second
+    → option_and_then timed_of (option_map (λ ws. first ∷ ws) (option_map (λ ws. second ∷ ws) rest)) ≡ option_map (timed t) (option_and_then (reader_of verb) rest)
+unfolding timed_of event_of
+head-on None first second t verb is-time is-verb = refl
+head-on (Some ws) first second t verb is-time is-verb =
+    ap (option_and_then (λ (t : ℕ). option_map (λ (e : Event). timed t e) (option_and_then (λ read. read ws) (keyword_in verbs second)))) (sym is-time)
+    ∙ ap (λ (o : Option (List Word → Option Event)). option_map (timed t) (option_and_then (λ read. read ws) o)) (sym is-verb)
+
+pub head-is : (words more rest : Option (List Word)) (first second : Word) (t : ℕ) (verb : Verb) → words ≡ option_map (λ ws. first ∷ ws) more → more ≡ option_map (λ ws. second ∷ ws) rest
+    → Some t ≡ option_and_then time_of (bare first) → Some (reader_of verb) ≡ keyword_in verbs second → option_and_then timed_of words ≡ option_map (timed t) (option_and_then (reader_of verb) rest)
+head-is words more rest first second t verb next after is-time is-verb =
+    ap (option_and_then timed_of) (next ∙ ap (option_map (λ ws. first ∷ ws)) after) ∙ head-on rest first second t verb is-time is-verb
+
+-- ---- the answer by what the words behind the verb give
+
+fault-answers : (reading : Reading) (said : Option Event) (t : ℕ) (why : LineFault) → reading ≡ reading_said (option_map (timed t) said) → Gives said (Err why) → Answers reading (Err why)
+fault-answers reading said t fault.BadByte is given = absurd given
+fault-answers reading said t fault.Syntax is given = is ∙ ap (λ (o : Option Event). reading_said (option_map (timed t) o)) (sym given)
+fault-answers reading said t fault.Memory is given = tt
+
+-- the same of a fault that a `?` gives back
+pub broken-answers : (reading : Reading) (said : Option Event) (t : ℕ) (why : LineFault) (result : Result (Option Stamped) LineFault) → IsErrAnd result (λ e. e ≡ why) → reading ≡ reading_said (option_map (timed t) said) → Gives said (Err why) → Answers reading result
+broken-answers reading said t why (Ok found) is e given = absurd is
+broken-answers reading said t why (Err f) is e given = subst (λ (f : LineFault). Answers reading (Err f)) (sym is) (fault-answers reading said t why e given)
 
 -- what is said fits
-pub said-fits : (words : List Word) (t : ℕ) (e : Event) → All (λ (word : Word). has_bad_byte word.text ≡ false) words → Some (timed t e) ≡ timed_of words → FitsTimed (timed t e)
+said-fits : (words : List Word) (t : ℕ) (e : Event) → All (λ (word : Word). has_bad_byte word.text ≡ false) words → Some (timed t e) ≡ timed_of words → FitsTimed (timed t e)
 said-fits words t e plain is = subst (IfFound FitsTimed) (sym is) (timed-fits words plain)
+
+pub fits-by-words : (words : Option (List Word)) (t : ℕ) (e : Event) → ((ws : List Word) → words ≡ Some ws → All (λ (word : Word). has_bad_byte word.text ≡ false) ws) → option_and_then timed_of words ≡ Some (timed t e) → FitsTimed (timed t e)
+fits-by-words None t e plain is = cc
+fits-by-words (Some ws) t e plain is = said-fits ws t e (plain ws refl) (sym is)
 
 -- ---- what each answer means, and what each reading is answered
 

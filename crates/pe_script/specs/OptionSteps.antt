@@ -19,6 +19,10 @@ settled so_far = option_and_then (λ given. if is_some given.waiting then None e
 unfoldable pub options_from : Option Options → List Word → Option Options
 options_from so_far words = settled (fold option_step so_far words)
 
+-- the same where the words that follow may be none that are in the grammar
+abbrev pub options_left : Option Options → Option (List Word) → Option Options
+options_left so_far words = option_and_then (options_from so_far) words
+
 -- the options, unless one was refused
 abbrev pub if_taken : Bool → Options → Option Options
 if_taken true given = Some given

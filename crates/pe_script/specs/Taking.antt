@@ -2,10 +2,10 @@
 -- This project's own.
 -- Verbs with a fixed number of words behind them are read from these, and `set` from its two halves.
 use Rattle.std.specs.Prelude.{ℕ, List, [], ◌∷◌, codes, Option, Some, None, option_map, option_and_then, if◌then◌else◌}
-use Rattle.pe_base.specs.declared.state.State.{State}
 use Rattle.pe_script.specs.Numerals.{bare, span_of}
-use Rattle.pe_script.specs.Names.{is_keyword, keyword_in, states}
+use Rattle.pe_script.specs.Names.{is_keyword}
 use Rattle.pe_lines.specs.declared.word.Word.{Word}
+use Rattle.pe_script.specs.declared.verbs.permissions.SettingWords.{SettingWords}
 
 -- the one word
 abbrev pub one : List Word → Option Word
@@ -31,14 +31,15 @@ four words = None
 abbrev pub span_for : Word → Word → Option ℕ
 span_for keyword ms = if is_keyword (codes "for") keyword then option_and_then span_of (bare ms) else None
 
--- a state, and `for MS` or nothing behind it
-abbrev pub state_and_span : List Word → Option (State × Option ℕ)
-state_and_span (word ∷ []) = option_map (λ s. (s, None)) (keyword_in states word)
-state_and_span (word ∷ keyword ∷ ms ∷ []) = option_and_then (λ span. option_map (λ s. (s, Some span)) (keyword_in states word)) (span_for keyword ms)
-state_and_span words = None
+-- the span of `for MS` where it is given, and none where nothing is said of it
+abbrev pub span_given : Option (Word × Word) → Option (Option ℕ)
+span_given None = Some None
+span_given (Some (keyword, ms)) = option_map (λ span. Some span) (span_for keyword ms)
 
--- the second origin of `set` and the words behind it, of the words behind the first
-abbrev pub second_of : List Word → Option (List ℕ) × List Word
-second_of (second ∷ word ∷ []) = (Some second.text, word ∷ [])
-second_of (second ∷ word ∷ keyword ∷ ms ∷ []) = (Some second.text, word ∷ keyword ∷ ms ∷ [])
-second_of words = (None, words)
+-- the words of `set` behind its first origin: a second one or none, a state, and `for MS` or nothing
+abbrev pub setting_words : List Word → Option SettingWords
+setting_words (word ∷ []) = Some (record { second = None; state = word; span = None })
+setting_words (second ∷ word ∷ []) = Some (record { second = Some second; state = word; span = None })
+setting_words (word ∷ keyword ∷ ms ∷ []) = Some (record { second = None; state = word; span = Some (keyword, ms) })
+setting_words (second ∷ word ∷ keyword ∷ ms ∷ []) = Some (record { second = Some second; state = word; span = Some (keyword, ms) })
+setting_words words = None

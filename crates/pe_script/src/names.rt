@@ -1,6 +1,5 @@
 //! The keywords of a script line, and the bare words that they are.
-ghost use Rattle.std.specs.Prelude.{◌≡◌, bytes_eq, find, map, option_map};
-ghost use Rattle.std.specs.Option.{option_copied};
+ghost use Rattle.std.specs.Prelude.{◌≡◌, IfOk, bytes_eq, find, map, option_map};
 ghost use Rattle.pe_script.specs.Numerals.{bare};
 ghost use Rattle.pe_script.specs.Names.{is_keyword, named_in, input_kinds, states, attribute_names, keyword_in};
 ghost use Rattle.pe_script.specs.Verbs.{lasting_outcomes, text_unless, verbs};
@@ -8,7 +7,8 @@ ghost use Rattle.pe_script.specs.Readers.{reader_of};
 
 use pe_base::{InputKind, State};
 use pe_events::{AttrName, Outcome};
-use pe_lines::{Text, Word};
+use pe_lines::{Text, WordSpan};
+use std::alloc::{AllocError, Global};
 
 /// The kinds of input.
 const INPUT_KINDS: [(&str, InputKind); 12] = [
@@ -114,34 +114,21 @@ const VERBS: [(&str, Verb); 19] = [
     ("tick", Verb::Tick),
 ];
 
-/// The text of a bare word, as it stands in the word.
-pub fn bare<'w>(word: &'w Word<'_>) -> Option<&'w [u8]>
-    ensures { option_copied result ≡ bare word.now }
+/// The text of a bare word.
+pub fn bare_text<'a>(word: &WordSpan<'a>) -> Option<Text<'a>>
+    ensures { result ≡ bare word.now }
 {
-    if word.quoted {
-        return None;
-    }
-    Some(word.text.as_slice())
-}
-
-/// The text of a bare word, taken out of it.
-pub fn bare_text<'a>(word: Word<'a>) -> Option<Text<'a>>
-    ensures { result ≡ bare word.entry }
-{
-    if word.quoted {
-        return None;
-    }
-    Some(word.text)
+    Some(Text::lent(word.bare()?))
 }
 
 /// Whether the word is bare and this keyword.
-pub fn is_keyword(word: &Word<'_>, keyword: &[u8]) -> bool
+pub fn is_keyword(word: &WordSpan<'_>, keyword: &[u8]) -> bool
     ensures { result ≡ is_keyword keyword.now word.now }
 {
-    if word.quoted {
-        return false;
+    match word.bare() {
+        Some(text) => text == keyword,
+        None => false,
     }
-    word.text.as_slice() == keyword
 }
 
 /// The first row of this name, compared byte for byte.
@@ -162,46 +149,52 @@ pub fn named_in<T: Copy>(table: &[(&'static str, T)], name: &[u8]) -> Option<T>
 }
 
 /// The state that a bare word names.
-pub fn state(word: &Word<'_>) -> Option<State>
+pub fn state(word: &WordSpan<'_>) -> Option<State>
     ensures { result ≡ keyword_in states word.now }
 {
-    named_in(&STATES, bare(word)?)
+    named_in(&STATES, word.bare()?)
 }
 
 /// The kind of input that a bare word names.
-pub fn input_kind(word: &Word<'_>) -> Option<InputKind>
+pub fn input_kind(word: &WordSpan<'_>) -> Option<InputKind>
     ensures { result ≡ keyword_in input_kinds word.now }
 {
-    named_in(&INPUT_KINDS, bare(word)?)
+    named_in(&INPUT_KINDS, word.bare()?)
 }
 
 /// The attribute that a bare word names.
-pub fn attribute_name(word: &Word<'_>) -> Option<AttrName>
+pub fn attribute_name(word: &WordSpan<'_>) -> Option<AttrName>
     ensures { result ≡ keyword_in attribute_names word.now }
 {
-    named_in(&ATTRIBUTE_NAMES, bare(word)?)
+    named_in(&ATTRIBUTE_NAMES, word.bare()?)
 }
 
 /// The outcome with a life that a bare word names.
-pub fn lasting_outcome(word: &Word<'_>) -> Option<Outcome>
+pub fn lasting_outcome(word: &WordSpan<'_>) -> Option<Outcome>
     ensures { result ≡ keyword_in lasting_outcomes word.now }
 {
-    named_in(&LASTING_OUTCOMES, bare(word)?)
+    named_in(&LASTING_OUTCOMES, word.bare()?)
 }
 
 /// The verb that a bare word names.
-pub fn verb_named(word: &Word<'_>) -> Option<Verb>
+pub fn verb_named(word: &WordSpan<'_>) -> Option<Verb>
     ensures { option_map reader_of result ≡ keyword_in verbs word.now }
 {
-    named_in(&VERBS, bare(word)?)
+    named_in(&VERBS, word.bare()?)
 }
 
-/// The text of a word, or none for a bare keyword that stands for its absence.
-pub fn text_unless<'a>(keyword: &[u8], word: Word<'a>) -> Option<Text<'a>>
-    ensures { result ≡ text_unless keyword.now word.entry }
+/// The text of a word, or none for a bare keyword that stands for its absence. `AllocError` where
+/// memory wants, which only an escape takes.
+pub fn text_unless<'a>(
+    alloc: Global,
+    keyword: &[u8],
+    word: &WordSpan<'a>,
+) -> Result<Option<Text<'a>>, AllocError>
+    ensures { IfOk result (λ text. text ≡ text_unless keyword.now word.now) }
 {
-    if is_keyword(&word, keyword) {
-        return None;
+    if is_keyword(word, keyword) {
+        return Ok(None);
     }
-    Some(word.text)
+    let text = word.text(alloc)?;
+    Ok(Some(text))
 }

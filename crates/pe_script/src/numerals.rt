@@ -3,8 +3,7 @@ ghost use Rattle.std.specs.Prelude.{◌≡◌, ◌≤◌, length, true, option_a
 ghost use Rattle.std.specs.List.{list_all};
 ghost use Rattle.pe_script.specs.Numerals.{is_digit, bare, is_positive, number_of, positive, time_of, span_of, object};
 
-use crate::names::bare;
-use pe_lines::Word;
+use pe_lines::WordSpan;
 
 /// Whether the byte is a decimal digit.
 fn is_digit(byte: u8) -> bool
@@ -63,10 +62,10 @@ pub fn positive(digits: &[u8], most: usize) -> Option<u64>
 
 /// A time in milliseconds: 0, or at most 13 digits without a leading zero.
 #[tactic(auto, unfolding(crate::specs::Numerals::time_of))]
-pub fn time(word: &Word<'_>) -> Option<u64>
+pub fn time(word: &WordSpan<'_>) -> Option<u64>
     ensures { result ≡ option_and_then time_of (bare word.now) }
 {
-    match bare(word)? {
+    match word.bare()? {
         b"0" => Some(0),
         digits => positive(digits, 13),
     }
@@ -74,18 +73,18 @@ pub fn time(word: &Word<'_>) -> Option<u64>
 
 /// A span in milliseconds: at most 13 digits of a number above 0.
 #[tactic(auto, unfolding(crate::specs::Numerals::span_of))]
-pub fn span(word: &Word<'_>) -> Option<u64>
+pub fn span(word: &WordSpan<'_>) -> Option<u64>
     ensures { result ≡ option_and_then span_of (bare word.now) }
 {
-    positive(bare(word)?, 13)
+    positive(word.bare()?, 13)
 }
 
 /// The number of the object that a bare word names, by the letter in front of it.
 #[tactic(auto, unfolding(crate::specs::Numerals::object, crate::specs::Numerals::named_by))]
-pub fn object(word: &Word<'_>, letter: u8) -> Option<u32>
+pub fn object(word: &WordSpan<'_>, letter: u8) -> Option<u32>
     ensures { result ≡ object letter word.now }
 {
-    match bare(word)? {
+    match word.bare()? {
         [] => None,
         [first, digits @ ..] => {
             if *first != letter {

@@ -1,13 +1,14 @@
 //! The options of a script line: each a name, and a text behind most.
-ghost use Rattle.std.specs.Prelude.{◌≡◌, ◌≤◌, ◌∷◌, IfOk, Some, None, length, option_map, is_some, true, false, not};
+ghost use Rattle.std.specs.Prelude.{◌≡◌, ◌≤◌, ◌∷◌, IfOk, Some, None, option_and_then, option_map, is_some, true, false, not};
 ghost use Rattle.pe_script.specs.Names.{keyword_in};
 ghost use Rattle.pe_script.specs.Verbs.{option_names, header_behind, no_options, options, headers, only_header, embedding};
-ghost use Rattle.pe_script.specs.OptionSteps.{options_from, if_taken, told_name, with_option};
+ghost use Rattle.pe_script.specs.Answering.{Gives};
+ghost use Rattle.pe_script.specs.OptionSteps.{options_left, if_taken, told_name, with_option};
 
-use crate::names::{bare, is_keyword, named_in};
-use crate::words::Words;
+use crate::names::{is_keyword, named_in};
+use crate::reading::LineFault;
 use pe_events::Event;
-use pe_lines::{Text, Word};
+use pe_lines::{Text, WordReader, WordSpan};
 use std::alloc::{AllocError, Global};
 use std::marker::Model;
 
@@ -53,10 +54,10 @@ impl<'a> Model for Options<'a> {
 }
 
 /// The option that a bare word names.
-fn option_name(word: &Word<'_>) -> Option<OptionName>
+fn option_name(word: &WordSpan<'_>) -> Option<OptionName>
     ensures { option_map told_name result ≡ keyword_in option_names word.now }
 {
-    named_in(&OPTION_NAMES, bare(word)?)
+    named_in(&OPTION_NAMES, word.bare()?)
 }
 
 /// Sets a flag, unless it is set already; answers whether it was not.
@@ -133,12 +134,12 @@ impl<'a> Options<'a> {
     fn read_option(
         &mut self,
         alloc: Global,
-        name: &Word<'_>,
-        words: &mut Words<'a>,
+        name: &WordSpan<'_>,
+        words: &mut WordReader<'a>,
     ) -> Result<bool, AllocError>
         ensures taken { IfOk result (λ taken.
-            options_from (Some self.old) (name.now ∷ words.old) ≡ options_from (if_taken taken self.new) words.new) }
-        ensures fewer { length words.new ≤ length words.old }
+            options_left (Some self.old) (option_map (λ more. name.now ∷ more) words.old.words) ≡ options_left (if_taken taken self.new) words.new.words) }
+        ensures fewer { words.new.bytes ≤ words.old.bytes }
     {
         if is_keyword(name, b"fullscreen") {
             return Ok(set_once(&mut self.fullscreen));
@@ -152,7 +153,8 @@ impl<'a> Options<'a> {
         let Some(text) = words.next() else {
             return Ok(false);
         };
-        self.put(alloc, option, text.text)
+        let text = text.text(alloc)?;
+        self.put(alloc, option, text)
     }
 
     /// The header, where nothing else stands among the options.
@@ -170,16 +172,16 @@ impl<'a> Options<'a> {
 
     /// The embedding of a source, or of none, in the document of a frame, where the options go together:
     /// a place goes with a source and without `srcdoc`, and a header without `srcdoc`.
-    pub fn embedding(self, parent: u32, src: Option<Text<'a>>) -> Option<Event<'a>>
-        ensures { result ≡ embedding parent src.entry self.entry }
+    pub fn embedding(self, parent: u32, src: Option<Text<'a>>) -> Result<Event<'a>, LineFault>
+        ensures { Gives (embedding parent src.entry self.entry) result }
     {
         if self.place.is_some() && (src.is_none() || self.srcdoc) {
-            return None;
+            return Err(LineFault::Syntax);
         }
         if self.header.is_some() && self.srcdoc {
-            return None;
+            return Err(LineFault::Syntax);
         }
-        Some(Event::Embed {
+        Ok(Event::Embed {
             parent,
             src,
             place: self.place,
@@ -192,34 +194,34 @@ impl<'a> Options<'a> {
     }
 }
 
-/// The options that the words give, in any order; None where one is unknown, has no text, or stands
-/// twice. `AllocError` where memory wants, which only several headers take.
-pub fn read_options<'a>(
-    alloc: Global,
-    mut words: Words<'a>,
-) -> Result<Option<Options<'a>>, AllocError>
-    ensures { IfOk result (λ given. given ≡ options words.entry) }
+/// The options that the words give, in any order; `Syntax` where one is unknown, has no text, or stands
+/// twice. `Memory` is taken only for escapes and several headers.
+pub fn read_options<'a>(alloc: Global, mut words: WordReader<'a>) -> Result<Options<'a>, LineFault>
+    ensures { Gives (option_and_then options words.entry.words) result }
 {
     let mut given = Options::none();
     while let Some(name) = words.next() {
-        if !given.read_option(alloc, &name, &mut words)? {
-            return Ok(None);
+        let Ok(taken) = given.read_option(alloc, &name, &mut words) else {
+            return Err(LineFault::Memory);
+        };
+        if !taken {
+            return Err(LineFault::Syntax);
         }
     }
-    Ok(Some(given))
+    if !words.is_done() {
+        return Err(LineFault::Syntax);
+    }
+    Ok(given)
 }
 
-/// The header that any number of `header TEXT` give, and none where there are none; None where other
-/// words stand among them. `AllocError` where memory wants, which only several headers take.
-#[tactic(auto, unfolding(crate::specs::Verbs::headers))]
-pub fn read_headers<'a>(
-    alloc: Global,
-    words: Words<'a>,
-) -> Result<Option<Option<Text<'a>>>, AllocError>
-    ensures { IfOk result (λ header. header ≡ headers words.entry) }
+/// The header that any number of `header TEXT` give, and none where there are none; `Syntax` where other
+/// words stand among them. `Memory` is taken only for escapes and several headers.
+pub fn read_headers<'a>(alloc: Global, words: WordReader<'a>) -> Result<Option<Text<'a>>, LineFault>
+    ensures { Gives (option_and_then headers words.entry.words) result }
 {
-    match read_options(alloc, words)? {
-        Some(given) => Ok(given.only_header()),
-        None => Ok(None),
-    }
+    let given = read_options(alloc, words)?;
+    let Some(header) = given.only_header() else {
+        return Err(LineFault::Syntax);
+    };
+    Ok(header)
 }

@@ -1,18 +1,17 @@
 //! What a line of a script says.
-ghost use Rattle.std.specs.Prelude.{◌≡◌, Ok, None, Some, IfOk, IfNone, IfSome, IsErrOf, IsOkAnd, IsSomeAnd, option_map, false};
-ghost use Rattle.pe_lines.specs.Words.{is_blank};
+ghost use Rattle.std.specs.Prelude.{◌≡◌, Ok, None, Some, IfOk, IfNone, IfSome, IsErrOf, IsOkAnd, IsSomeAnd, false};
+ghost use Rattle.pe_lines.specs.Words.{is_blank, is_blank_line, is_comment};
 ghost use Rattle.pe_events.specs.declared.cause.Cause.TheVariants as cause;
 ghost use Rattle.pe_events.specs.Timed.{Timed};
-ghost use Rattle.pe_script.specs.Reading.{Silent, Refusal, Says, timed_of, reading_of};
-ghost use Rattle.pe_script.specs.Answering.{is_silent, timed, told, UnlessMemory, Answers};
+ghost use Rattle.pe_script.specs.Reading.{Silent, Refusal, Says, reading_of};
+ghost use Rattle.pe_script.specs.Answering.{is_silent, told, UnlessMemory, Answers, TakesHead};
 
-use crate::names::verb_named;
+use crate::names::{Verb, verb_named};
 use crate::numerals::time;
 use crate::verbs::read_behind;
-use crate::words::Words;
-use pe_events::{Event, Stamped};
-use pe_lines::{WordFault, words};
-use std::alloc::{AllocError, Global};
+use pe_events::Stamped;
+use pe_lines::WordReader;
+use std::alloc::Global;
 use thiserror::Error;
 
 /// Why a line says no event.
@@ -36,43 +35,54 @@ fn is_blank(byte: u8) -> bool
     byte == b' ' || byte == b'\t'
 }
 
-/// Whether the line is of blanks alone, or a comment.
-fn is_silent(line: &[u8]) -> bool
-    ensures { result ≡ is_silent line.now }
+/// Whether each byte is a space or a tab. It looks at all of them, many at a time.
+#[tactic(auto, unfolding(pe_lines::specs::Words::is_blank_line))]
+fn is_blank_line(line: &[u8]) -> bool
+    ensures { result ≡ is_blank_line line.now }
+{
+    let mut is_all = true;
+    for byte in line {
+        is_all &= is_blank(*byte);
+    }
+    is_all
+}
+
+/// Whether the first byte that is no blank is `#`.
+fn is_comment(line: &[u8]) -> bool
+    ensures { result ≡ is_comment line.now }
 {
     for byte in line {
         if !is_blank(*byte) {
             return *byte == b'#';
         }
     }
-    true
+    false
 }
 
-/// The time and the event that the words of a line say; None where they say none. `AllocError` where
-/// memory wants, which only several headers take.
-#[tactic(auto, unfolding(crate::specs::Reading::timed_of, crate::specs::Verbs::event_of))]
-fn read_words<'a>(
-    alloc: Global,
-    mut words: Words<'a>,
-) -> Result<Option<(u64, Event<'a>)>, AllocError>
-    ensures { IfOk result (λ said. option_map (λ pair. timed pair.0 pair.1) said ≡ timed_of words.entry) }
+/// Whether the line is of blanks alone, or a comment.
+fn is_silent(line: &[u8]) -> bool
+    ensures { result ≡ is_silent line.now }
 {
-    let Some(first) = words.next() else {
-        return Ok(None);
-    };
-    let Some(second) = words.next() else {
-        return Ok(None);
-    };
-    let Some(time) = time(&first) else {
-        return Ok(None);
-    };
-    let Some(verb) = verb_named(&second) else {
-        return Ok(None);
-    };
-    let Some(event) = read_behind(alloc, verb, words)? else {
-        return Ok(None);
-    };
-    Ok(Some((time, event)))
+    match line {
+        [] => true,
+        [byte, ..] => {
+            if !is_blank(*byte) {
+                return *byte == b'#';
+            }
+            is_blank_line(line) || is_comment(line)
+        }
+    }
+}
+
+/// Takes the time and the verb off the words of a line; None where the words say no event.
+fn read_head(words: &mut WordReader<'_>) -> Option<(u64, Verb)>
+    ensures { TakesHead words.old.words words.new.words result }
+{
+    let first = words.next()?;
+    let second = words.next()?;
+    let time = time(&first)?;
+    let verb = verb_named(&second)?;
+    Some((time, verb))
 }
 
 /// What a line says that is neither blank nor a comment.
@@ -80,17 +90,14 @@ fn read_line<'a>(alloc: Global, line: &'a [u8]) -> Result<Option<Stamped<'a>>, L
     requires { is_silent line.now ≡ false }
     ensures { Answers (reading_of line.now) result }
 {
-    let words = match words(alloc, line) {
-        Ok(words) => words,
-        Err(WordFault::BadByte) => return Err(LineFault::BadByte),
-        Err(WordFault::Syntax) => return Err(LineFault::Syntax),
-        Err(WordFault::Memory) => return Err(LineFault::Memory),
+    let Some(mut words) = WordReader::of(line) else {
+        return Err(LineFault::BadByte);
     };
-    match read_words(alloc, Words::of(words)) {
-        Ok(Some((time, event))) => Ok(Some(Stamped { time, event })),
-        Ok(None) => Err(LineFault::Syntax),
-        Err(AllocError) => Err(LineFault::Memory),
-    }
+    let Some((time, verb)) = read_head(&mut words) else {
+        return Err(LineFault::Syntax);
+    };
+    let event = read_behind(alloc, verb, words)?;
+    Ok(Some(Stamped { time, event }))
 }
 
 /// What a line of a script says: an event with its time, or nothing where the line is blank or a comment.

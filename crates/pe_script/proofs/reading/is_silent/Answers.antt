@@ -1,12 +1,19 @@
-use Rattle.std.proofs.Common.{sym, ◌∙◌}
-use Rattle.pe_script.proofs.LineReadings.{silent-end, silent-more, silent-here}
+use Rattle.std.proofs.Common.{◌≡◌, ℕ, ◌<◌, ◌≤◌, true, false, ◌==◌, List, [], ◌∷◌, length, slice_index_or, sym, arith}
+use Rattle.pe_lines.specs.Words.{is_blank}
+use Rattle.pe_script.specs.Answering.{is_silent}
+use Rattle.pe_script.proofs.LineReadings.{silent_nothing, silent_other}
 use Rattle.pe_script.proofs.reading.is_silent.Goals as goal
 
+at_no_byte : (line : List ℕ) → length line < 1 → true ≡ is_silent line
+at_no_byte [] below = sym silent_nothing
+at_no_byte (b ∷ line) below = absurd (omega arith)
+
+at_first : (line : List ℕ) → 1 ≤ length line → is_blank (slice_index_or line 0 0) ≡ false → (slice_index_or line 0 0 == 35) ≡ is_silent line
+at_first [] some e = absurd (omega arith)
+at_first (b ∷ line) some e = sym (silent_other b line e)
+
 pub returns-then-not-is_blank : goal.returns-then-not-is_blank
-returns-then-not-is_blank c = sym (c.loop-byte.invariant ∙ silent-here c.args.line.now c.loop-byte.byte-index c.loop-byte-test.true (sym c.if-not-is_blank.ensures))
+returns-then-not-is_blank c = at_first c.args.line.now c.in-len1-up.len_at_least (sym c.if-not-is_blank.ensures)
 
-pub loop-byte-preserved : goal.loop-byte-preserved
-loop-byte-preserved c = c.loop-byte.invariant ∙ silent-more c.args.line.now c.loop-byte.byte-index c.loop-byte-test.true (sym c.if-not-is_blank.ensures)
-
-pub returns : goal.returns
-returns c = sym (c.loop-byte.invariant ∙ silent-end c.args.line.now c.loop-byte.byte-index c.loop-byte-test.false)
+pub returns-in-empty : goal.returns-in-empty
+returns-in-empty c = at_no_byte c.args.line.now c.in-empty.len_below

@@ -1,11 +1,26 @@
-use Rattle.std.proofs.Common.{Some, None, ◌∙◌}
-use Rattle.pe_script.proofs.VerbWords.{setting-is}
+use Rattle.std.proofs.Common.{refl, None, Some, ◌∙◌}
+use Rattle.pe_script.specs.Verbs.{read_setting}
+use Rattle.pe_script.proofs.Takes.{nothing_of}
+use Rattle.pe_script.proofs.VerbWords.{setting_is, set_is, no_span, no_state}
 use Rattle.pe_script.proofs.verbs.permissions.read_setting.Goals as goal
 
-pub returns-in_err-state : goal.returns-in_err-state
-returns-in_err-state c =
-    let is = c.from_residual-in_err-state.ensures in
-    is ∙ setting-is c.args.feature c.args.words c.next.new.self c.second_origin-second.new.words c.in_ok-first.field-0 c.second_origin-second.result None c.in_ok-first.ensures c.second_origin-second.ensures.second c.second_origin-second.ensures.rest c.in_err-state.ensures
+pub returns-in_default : goal.returns-in_default
+returns-in_default c = nothing_of (read_setting c.args.feature) c.args.words.words refl c.in_default.ensures.none
+
+pub returns-in_default-setting_words : goal.returns-in_default-setting_words
+returns-in_default-setting_words c = setting_is c.args.feature c.args.words.words _ c.in-Some.first None c.in-Some.ensures.word c.in_default-setting_words.ensures
+
+pub returns-in_default-span_given : goal.returns-in_default-span_given
+returns-in_default-span_given c =
+    no_span c.args.feature c.in-Some.first c.in-Some-setting_words.setting c.in_default-span_given.ensures
+    ∙ setting_is c.args.feature c.args.words.words _ c.in-Some.first (Some c.in-Some-setting_words.setting) c.in-Some.ensures.word c.in-Some-setting_words.ensures
+
+pub returns-in_default-state : goal.returns-in_default-state
+returns-in_default-state c =
+    no_state c.args.feature c.in-Some.first c.in-Some-setting_words.setting c.in_default-state.ensures
+    ∙ setting_is c.args.feature c.args.words.words _ c.in-Some.first (Some c.in-Some-setting_words.setting) c.in-Some.ensures.word c.in-Some-setting_words.ensures
 
 pub returns : goal.returns
-returns c = setting-is c.args.feature c.args.words c.next.new.self c.second_origin-second.new.words c.in_ok-first.field-0 c.second_origin-second.result (Some (c.in_ok-state.state, c.in_ok-state.span)) c.in_ok-first.ensures c.second_origin-second.ensures.second c.second_origin-second.ensures.rest c.in_ok-state.ensures
+returns c =
+    set_is c.args.feature c.in-Some.first c.in-Some-setting_words.setting c.in-Some-span_given.span c.in-Some-state.state c.in-Ok-text_given.second c.in-Ok.first c.in-Some-span_given.ensures c.in-Some-state.ensures c.in-Ok.ensures c.in-Ok-text_given.ensures
+    ∙ setting_is c.args.feature c.args.words.words _ c.in-Some.first (Some c.in-Some-setting_words.setting) c.in-Some.ensures.word c.in-Some-setting_words.ensures
