@@ -8,7 +8,7 @@ use browser::{may, tell, text};
 use pe_base::{FrameNo, InputKind, Millis};
 use pe_engine::{Engine, Replies};
 use pe_events::{Answer, Event, EventLife, Outcome, Reason, Verdict, Via};
-use pe_features::Call;
+use pe_features::{Call, Feature};
 use std::alloc::AllocError;
 use std::io;
 
@@ -69,9 +69,9 @@ fn ask(
     engine: &mut Engine,
     now: Millis,
     frame: FrameNo,
-    feature: &[u8],
+    feature: Feature,
 ) -> Result<(), AllocError> {
-    let Some(feature) = text(feature) else {
+    let Some(feature) = text(feature.name().as_bytes()) else {
         return Ok(());
     };
     let event = Event::Request {
@@ -139,7 +139,7 @@ fn shop(engine: &mut Engine) -> Result<Option<FrameNo>, AllocError> {
 fn visit(rt: &impl Print, engine: &mut Engine, frame: FrameNo) -> io::Result<()> {
     show(rt, "the frame at first", engine, frame)?;
     click(engine, Millis::of(1000), frame)?;
-    ask(engine, Millis::of(1500), frame, b"geolocation")?;
+    ask(engine, Millis::of(1500), frame, Feature::Geolocation)?;
     show(rt, "after a click and a prompt", engine, frame)?;
     wait(engine, Millis::of(6000))?;
     show(rt, "five seconds after the click", engine, frame)
