@@ -1,6 +1,6 @@
 //! How a browser tells the engine what happens, and asks it on each call.
-ghost use Rattle.std.specs.Prelude.{◌≡◌, ◌<◌, IsTrue, IfOk, IfSome};
-ghost use Rattle.pe_lines.specs.Words.{is_bad_byte};
+ghost use Rattle.std.specs.Prelude.{◌≡◌, ◌<◌, true, IsTrue, IfOk, IfSome, IfNone};
+ghost use Rattle.pe_lines.specs.Words.{is_bad_byte, has_bad_byte};
 ghost use Rattle.pe_events.specs.Fitting.{is_fitting, is_text};
 ghost use Rattle.pe_rules.specs.History.{History};
 ghost use Rattle.pe_rules.specs.Replies.{replied};
@@ -28,7 +28,9 @@ fn is_bad_byte(byte: u8) -> bool
 /// A text as an event may hold it; None where a byte is neither a tab nor printable ASCII.
 #[tactic(auto, unfolding(pe_lines::specs::Words::has_bad_byte))]
 pub fn text(bytes: &[u8]) -> Option<Text<'_>>
-    ensures { IfSome result (λ t. IsTrue (is_text t)) }
+    ensures fitting { IfSome result (λ t. IsTrue (is_text t)) }
+    ensures same { IfSome result (λ t. t ≡ bytes.now) }
+    ensures none { IfNone result (has_bad_byte bytes.now ≡ true) }
 {
     if bytes.iter().any(|byte| is_bad_byte(*byte)) {
         return None;
