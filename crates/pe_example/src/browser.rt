@@ -25,14 +25,21 @@ fn is_bad_byte(byte: u8) -> bool
     byte != b'\t' && (byte < b' ' || byte > b'~')
 }
 
-/// A text as an event may hold it; None where a byte is neither a tab nor printable ASCII.
+/// Whether some byte is one that an event may not hold.
 #[tactic(auto, unfolding(pe_lines::specs::Words::has_bad_byte))]
+fn has_bad_byte(bytes: &[u8]) -> bool
+    ensures { result ≡ has_bad_byte bytes.now }
+{
+    bytes.iter().any(|byte| is_bad_byte(*byte))
+}
+
+/// A text as an event may hold it; None where a byte is neither a tab nor printable ASCII.
 pub fn text(bytes: &[u8]) -> Option<Text<'_>>
     ensures fitting { IfSome result (λ t. IsTrue (is_text t)) }
     ensures same { IfSome result (λ t. t ≡ bytes.now) }
     ensures none { IfNone result (has_bad_byte bytes.now ≡ true) }
 {
-    if bytes.iter().any(|byte| is_bad_byte(*byte)) {
+    if has_bad_byte(bytes) {
         return None;
     }
     Some(Text::lent(bytes))
