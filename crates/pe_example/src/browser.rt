@@ -47,7 +47,7 @@ pub fn text(bytes: &[u8]) -> Option<Text<'_>>
 
 /// Tells the engine what happens at a time, and hands on its reply. `AllocError` where memory wants.
 pub fn tell(engine: &mut Engine, time: Millis, event: Event<'_>) -> Result<Replies, AllocError>
-    requires fitting { IsTrue (is_fitting event.entry) }
+    requires fitting { IsTrue (is_fitting event) }
     ensures { (H : History) → StandsFor engine.old H → IfOk result (IsReply engine.old engine.new H (timed time event.entry)) }
 {
     let time = time.get();

@@ -5,10 +5,10 @@
 mod browser;
 
 use browser::{may, tell, text};
-use pe_base::{FrameNo, InputKind, Millis};
+use pe_base::{FrameNo, InputKind, Millis, PromptNo};
 use pe_engine::{Engine, Replies};
 use pe_events::{Answer, Event, EventLife, Outcome, Reason, Verdict, Via};
-use pe_features::{Call, Feature};
+use pe_features::Call;
 use std::alloc::AllocError;
 use std::io;
 
@@ -64,30 +64,49 @@ fn click(engine: &mut Engine, now: Millis, frame: FrameNo) -> Result<(), AllocEr
     Ok(())
 }
 
-/// A frame's document asks for a permission, and the user allows it as long as the page is there.
-fn ask(
+/// The prompt that an event made; None where it made none.
+fn prompt_made(replies: &Replies) -> Option<PromptNo> {
+    match &replies.answer {
+        Answer::PromptMade { prompt } => Some(*prompt),
+        _ => None,
+    }
+}
+
+/// A frame's document asks for a permission.
+fn ask<'a>(
     engine: &mut Engine,
     now: Millis,
     frame: FrameNo,
-    feature: Feature,
-) -> Result<(), AllocError> {
-    let Some(feature) = text(feature.name().as_bytes()) else {
-        return Ok(());
+    feature: &'a [u8],
+) -> Result<Option<PromptNo>, AllocError> {
+    let Some(feature) = text(feature) else {
+        return Ok(None);
     };
     let event = Event::Request {
         frame: frame.get(),
         feature,
     };
     let replies = tell(engine, now, event)?;
-    if let Answer::PromptMade { prompt } = &replies.answer {
-        let event = Event::Answered {
-            prompt: prompt.get(),
-            outcome: Outcome::Allow,
-            life: EventLife::Once,
-        };
-        tell(engine, now, event)?;
-    }
+    Ok(prompt_made(&replies))
+}
+
+/// The user allows what a prompt asks for, as long as the page is there.
+fn allow_once(engine: &mut Engine, now: Millis, prompt: PromptNo) -> Result<(), AllocError> {
+    let event = Event::Answered {
+        prompt: prompt.get(),
+        outcome: Outcome::Allow,
+        life: EventLife::Once,
+    };
+    tell(engine, now, event)?;
     Ok(())
+}
+
+/// A frame's document asks for its place, and the user allows it.
+fn locate(engine: &mut Engine, now: Millis, frame: FrameNo) -> Result<(), AllocError> {
+    match ask(engine, now, frame, b"geolocation")? {
+        Some(prompt) => allow_once(engine, now, prompt),
+        None => Ok(()),
+    }
 }
 
 /// Lets the time go on.
@@ -139,7 +158,7 @@ fn shop(engine: &mut Engine) -> Result<Option<FrameNo>, AllocError> {
 fn visit(rt: &impl Print, engine: &mut Engine, frame: FrameNo) -> io::Result<()> {
     show(rt, "the frame at first", engine, frame)?;
     click(engine, Millis::of(1000), frame)?;
-    ask(engine, Millis::of(1500), frame, Feature::Geolocation)?;
+    locate(engine, Millis::of(1500), frame)?;
     show(rt, "after a click and a prompt", engine, frame)?;
     wait(engine, Millis::of(6000))?;
     show(rt, "five seconds after the click", engine, frame)
