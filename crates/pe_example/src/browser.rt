@@ -77,12 +77,7 @@ pub fn may(engine: &Engine, frame: FrameNo, call: Call) -> Option<Verdict>
 }
 
 /// What the engine decides, in steps that are counted in contracts alone.
-fn decide<L: Ledger>(
-    engine: &Engine,
-    frame: FrameNo,
-    call: Call,
-    blank: Blank,
-) -> Option<Verdict>
+fn decide<L: Ledger>(engine: &Engine, frame: FrameNo, call: Call, blank: Blank) -> Option<Verdict>
     requires name { blank.name ≡ L.name }
     requires parts { blank.parts ≡ L.parts }
     requires some { 0 < blank.parts }

@@ -2,6 +2,9 @@
 //! no text of a script, and what the frame may do before an input, after it, and five seconds later.
 #![tactic(auto)]
 
+ghost use Rattle.std.specs.Prelude.{IsTrue};
+ghost use Rattle.pe_events.specs.Fitting.{is_fitting, is_text};
+
 mod browser;
 
 use browser::{may, tell, text};
@@ -9,6 +12,7 @@ use pe_base::{FrameNo, InputKind, Millis, PromptNo};
 use pe_engine::{Engine, Replies};
 use pe_events::{Answer, Event, EventLife, Outcome, Reason, Verdict, Via};
 use pe_features::Call;
+use pe_lines::Text;
 use std::alloc::AllocError;
 use std::io;
 
@@ -72,6 +76,17 @@ fn prompt_made(replies: &Replies) -> Option<PromptNo> {
     }
 }
 
+/// The event that a frame's document asks for a permission.
+fn request(frame: FrameNo, feature: Text<'_>) -> Event<'_>
+    requires { IsTrue (is_text feature) }
+    ensures { IsTrue (is_fitting result) }
+{
+    Event::Request {
+        frame: frame.get(),
+        feature,
+    }
+}
+
 /// A frame's document asks for a permission.
 fn ask<'a>(
     engine: &mut Engine,
@@ -82,11 +97,7 @@ fn ask<'a>(
     let Some(feature) = text(feature) else {
         return Ok(None);
     };
-    let event = Event::Request {
-        frame: frame.get(),
-        feature,
-    };
-    let replies = tell(engine, now, event)?;
+    let replies = tell(engine, now, request(frame, feature))?;
     Ok(prompt_made(&replies))
 }
 
