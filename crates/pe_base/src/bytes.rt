@@ -8,16 +8,17 @@ ghost use Rattle.std.specs.Hash as fed;
 ghost use Rattle.std.specs.Ordering.{nat_cmp};
 ghost use Rattle.std.specs.Str.{bytes_eq};
 
-use std::alloc::AllocError;
+use smallvec::SmallVec;
+use std::alloc::{AllocError, Global};
 use std::cmp::Ordering;
 use std::hash::{Hash, Hasher};
 use std::marker::Model;
 
 /// Bytes that are owned, seen by contracts as their list. They are compared byte for byte, in
-/// lexicographic order.
+/// lexicographic order. Up to 24 of them, as of most hosts, stand in the value itself and take no memory.
 #[derive(Debug, Drop)]
 pub struct Bytes {
-    items: Vec<u8>,
+    items: SmallVec<u8, 24>,
 }
 
 impl Model for Bytes {
@@ -33,7 +34,17 @@ impl Bytes {
     pub fn of(items: Vec<u8>) -> Bytes
         ensures { result ≡ items.items }
     {
-        Bytes { items }
+        Bytes {
+            items: SmallVec::from_vec(items),
+        }
+    }
+
+    /// Owns a copy of the given bytes; `AllocError` where memory wants.
+    pub fn copy_of(alloc: Global, bytes: &[u8]) -> Result<Bytes, AllocError>
+        ensures { IfOk result (λ b. b ≡ bytes.now) }
+    {
+        let items = SmallVec::from_slice(alloc, bytes)?;
+        Ok(Bytes { items })
     }
 
     /// The bytes.
@@ -47,8 +58,7 @@ impl Bytes {
     pub fn copy(&self) -> Result<Bytes, AllocError>
         ensures { IfOk result (λ b. b ≡ self.now) }
     {
-        let items = self.items.clone()?;
-        Ok(Bytes { items })
+        Bytes::copy_of(*self.items.allocator(), self.as_slice())
     }
 }
 

@@ -2,7 +2,7 @@
 use crate::time::Millis;
 
 /// A kind of input, in the order of the script's table. Which kinds are activation triggering
-/// (HTML Standard, "activation triggering input event") is told where activation is.
+/// (HTML Standard, "activation triggering input event") says `triggers` in `specs/Activation`.
 #[derive(Clone, Copy, Debug, PartialEq, Eq, PartialOrd, Ord, Hash)]
 pub enum InputKind {
     /// A key went down that is neither Escape nor reserved by the browser.
@@ -34,7 +34,7 @@ pub enum InputKind {
 /// When a document was last activated (HTML Standard, "last activation timestamp", and for a second
 /// stamp "last history-action activation timestamp"). A second stamp is the copy that a history action
 /// took of the first, and `Never` where none did. What stamps say of sticky, transient and history-action
-/// activation is told where activation is.
+/// activation say `is_sticky`, `is_transient` and `is_history_active` in `specs/Activation`.
 #[derive(Clone, Copy, Debug, PartialEq, Eq)]
 pub enum Stamp {
     /// No input activated the document.

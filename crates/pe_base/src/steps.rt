@@ -23,7 +23,8 @@ impl<L: Ledger> Model for Steps<L> {
 }
 
 impl<L: Ledger> Steps<L> {
-    /// A count at 0, in a function over `L: Ledger` that is called with `Brand`.
+    /// A count at 0, in a function over `L: Ledger` that is called with `Brand` and hands on the blank that it
+    /// is passed, as `Blank::new(1)`.
     pub fn start(blank: Blank) -> Steps<L>
         requires name { blank.name ≡ L.name }
         requires parts { blank.parts ≡ L.parts }

@@ -55,7 +55,7 @@ impl Pages {
     fn open(alloc: Global, pages: u32) -> Result<Pages, AllocError> {
         let origin = Origin::Tuple(Tuple {
             scheme: Scheme::Https,
-            host: Bytes::of(b"b.example".to_vec(alloc)?),
+            host: Bytes::copy_of(alloc, b"b.example")?,
             form: HostForm::Domain,
             port: 443,
         });

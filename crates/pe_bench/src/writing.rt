@@ -23,7 +23,7 @@ pub enum Output {
 fn origin(alloc: Global) -> Result<Origin, AllocError> {
     Ok(Origin::Tuple(Tuple {
         scheme: Scheme::Https,
-        host: Bytes::of(b"b.example".to_vec(alloc)?),
+        host: Bytes::copy_of(alloc, b"b.example")?,
         form: HostForm::Domain,
         port: 443,
     }))

@@ -58,7 +58,7 @@ pub(crate) fn value_given(
     ensures { IfOk result (λ bytes. bytes ≡ value.now) }
 {
     match value {
-        Some(text) => Ok(Some(Bytes::of(text.as_slice().to_vec(alloc)?))),
+        Some(text) => Ok(Some(Bytes::copy_of(alloc, text.as_slice())?)),
         None => Ok(None),
     }
 }

@@ -58,7 +58,8 @@ pub enum Answer {
     PromptJoined {
         prompt: PromptNo,
     },
-    /// A prompt was settled, with so many requests of current documents.
+    /// A prompt was settled, with so many requests of current documents. The state is what the user chose:
+    /// granted, denied, or prompt for a dismissal, also for the third, after which it is denied.
     Settled {
         count: u32,
         state: State,

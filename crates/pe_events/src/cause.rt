@@ -1,6 +1,7 @@
 //! Why a line is refused.
 
-/// Why a line is refused, in the order in which the causes are tried.
+/// Why a line is refused, in the order in which the causes are tried. The first three are of lines that are
+/// no event: no event is refused for them.
 #[derive(Clone, Copy, Debug, PartialEq, Eq)]
 pub enum Cause {
     /// The line has over 16,384 bytes.

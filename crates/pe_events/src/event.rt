@@ -35,20 +35,23 @@ pub enum EventLife {
     Forever,
     /// While the top document of the prompt's page is current.
     Once,
-    /// So many milliseconds.
+    /// So many milliseconds from the event's time, 1 to `TIME_LIMIT`.
     For(u64),
 }
 
-/// What a line of a script says. Objects are named by their numbers, which need not exist.
+/// What a line of a script says. Objects are named by their numbers, which need not exist. Numbers are 1 to
+/// `NAME_LIMIT`; each text is tabs and printable ASCII (`Fitting`). A `header` has the values of all
+/// `Permissions-Policy` lines of the response, joined by `, ` (RFC 8941, 4.2); None without one.
 #[derive(Drop)]
 pub enum Event<'a> {
-    /// A page is opened at a URL, with these header lines of the response.
+    /// A page is opened at a URL.
     OpenPage {
         url: Text<'a>,
         header: Option<Text<'a>>,
     },
-    /// A frame is embedded in the document of another, with its attributes; `place` is the document's
-    /// URL where that is not `src`.
+    /// A frame is embedded in the document of another, with its attributes. `place` is the document's
+    /// URL; None where that is `src`, with `srcdoc`, and without `src`. With `srcdoc` there is no `header`
+    /// either.
     Embed {
         parent: u32,
         src: Option<Text<'a>>,
@@ -65,7 +68,8 @@ pub enum Event<'a> {
         url: Text<'a>,
         header: Option<Text<'a>>,
     },
-    /// An attribute of a frame is set, or removed where there is no value.
+    /// An attribute of a frame is set, or removed where there is no value. Of `Srcdoc` and `Fullscreen`
+    /// it only counts whether they stand.
     Attr {
         frame: u32,
         name: AttrName,
@@ -116,13 +120,15 @@ pub enum Event<'a> {
         frame: u32,
         feature: Text<'a>,
     },
-    /// The user answers the shown prompt.
+    /// The user answers the shown prompt. The life of a dismissal is `Forever`.
     Answered {
         prompt: u32,
         outcome: Outcome,
         life: EventLife,
     },
-    /// A permission is set for one origin or a pair of them, for `span` milliseconds or forever.
+    /// A permission is set. `first` is the origin of the top document, as a URL of http, https, ws, wss or
+    /// ftp; `second`, given exactly for `storage-access`, is the document's own. `span` is 1 to `TIME_LIMIT`
+    /// milliseconds; None is forever.
     SetState {
         feature: Text<'a>,
         first: Text<'a>,
@@ -130,8 +136,8 @@ pub enum Event<'a> {
         state: State,
         span: Option<u64>,
     },
-    /// A frame's document posts a message that delegates a capability to another's; with no origin
-    /// where any may receive it.
+    /// A frame's document posts a message that delegates a capability to another's. An origin is a URL as
+    /// in `SetState`; None is `*`, which is denied as `TargetAny`.
     Post {
         sender: u32,
         target: u32,

@@ -9,40 +9,41 @@ use crate::capability::Capability;
 use crate::feature::Feature;
 use crate::named::{Named, row_named};
 
-/// A call that a page may make, in the order of the table.
+/// A call that a page may make, in the order of the table. Each stands for a call of a web API; `getUserMedia`
+/// with video and audio is two.
 #[derive(Clone, Copy, Debug, PartialEq, Eq, PartialOrd, Ord, Hash)]
 pub enum Call {
-    /// `get-position`.
+    /// `get-position`: Geolocation, `getCurrentPosition` and `watchPosition`.
     GetPosition,
-    /// `get-user-media-camera`.
+    /// `get-user-media-camera`: Media Capture and Streams, `getUserMedia` with video.
     GetUserMediaCamera,
-    /// `get-user-media-microphone`.
+    /// `get-user-media-microphone`: Media Capture and Streams, `getUserMedia` with audio.
     GetUserMediaMicrophone,
-    /// `get-display-media`.
+    /// `get-display-media`: Screen Capture, `getDisplayMedia`.
     GetDisplayMedia,
-    /// `request-fullscreen`.
+    /// `request-fullscreen`: Fullscreen API, `requestFullscreen`.
     RequestFullscreen,
-    /// `show-payment`.
+    /// `show-payment`: Payment Request API, `show`.
     ShowPayment,
-    /// `clipboard-read-text`.
+    /// `clipboard-read-text`: Clipboard API, `readText`.
     ClipboardReadText,
-    /// `clipboard-write-text`.
+    /// `clipboard-write-text`: Clipboard API, `writeText`.
     ClipboardWriteText,
-    /// `play-audio`.
+    /// `play-audio`: HTML Standard, `play` of a media element that is heard.
     PlayAudio,
-    /// `vibrate`.
+    /// `vibrate`: Vibration API, `vibrate`.
     Vibrate,
-    /// `open-window`.
+    /// `open-window`: HTML Standard, `window.open`.
     OpenWindow,
-    /// `show-notification`.
+    /// `show-notification`: Notifications API, `new Notification` and `showNotification`.
     ShowNotification,
-    /// `request-picture-in-picture`.
+    /// `request-picture-in-picture`: Picture-in-Picture, `requestPictureInPicture`.
     RequestPictureInPicture,
-    /// `request-storage-access`.
+    /// `request-storage-access`: Storage Access API, `requestStorageAccess`.
     RequestStorageAccess,
 }
 
-/// The user activation that a call needs (HTML Standard, "activation-gated APIs").
+/// The user activation that a call needs (HTML Standard, "APIs gated by user activation").
 #[derive(Clone, Copy, Debug, PartialEq, Eq, PartialOrd, Ord, Hash)]
 pub enum Need {
     /// None.

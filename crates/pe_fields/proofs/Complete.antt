@@ -163,7 +163,7 @@ text_other b (c ∷ bs) x y =
     let body : Bool → Bool → Option (List ℕ × List ℕ) = λ v w. elim v [ true ↦ Some ([], c ∷ bs) | false ↦ elim w [ true ↦ cond (eqb c 34 || eqb c 92) (read_map (λ text. c ∷ text) (text_at bs)) None | false ↦ cond (is_text_byte b) (read_map (λ text. b ∷ text) (text_at (c ∷ bs))) None ] ] in
     ap (λ v. body v (eqb b 92)) x ∙ ap (λ w. body false w) y
 
-text_plain : (b : ℕ) (bs : List ℕ) → eqb b 34 ≡ false → eqb b 92 ≡ false → is_text_byte b ≡ true → text_at (b ∷ bs) ≡ read_map (λ text. b ∷ text) (text_at bs)
+pub text_plain : (b : ℕ) (bs : List ℕ) → eqb b 34 ≡ false → eqb b 92 ≡ false → is_text_byte b ≡ true → text_at (b ∷ bs) ≡ read_map (λ text. b ∷ text) (text_at bs)
 text_plain b bs x y h = text_other b bs x y ∙ rw h refl
 
 text_complete : (bytes rest : List ℕ) → list_all is_text_byte bytes ≡ true → text_at ((flat_map spelled_byte bytes ++ codes "\"") ++ rest) ≡ Some (bytes, rest)

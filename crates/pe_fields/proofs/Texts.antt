@@ -1,12 +1,15 @@
 -- Reading a string byte by byte, as a loop does.
 use Rattle.std.proofs.Common.{◌≡◌, ℕ, ◌<◌, true, false, cond, eqb, ◌||◌, List, [], ◌∷◌, ◌++◌, length, Option, Some, None, refl, ap, sym, ◌∙◌, append_assoc, append-nil, arith, inl, inr}
 use Rattle.std.proofs.lemmas.Bool.{eqb-true}
+use Rattle.std.proofs.lemmas.Bool.Decides.{nat_tests}
+use Rattle.std.specs.List.{take_while}
+use Rattle.std.proofs.lemmas.List.Sums.{take_while-cons}
 use Rattle.std.proofs.lemmas.Option.{none-some, same_Some}
-use Rattle.pe_fields.specs.Alphabet.{is_text_byte}
-use Rattle.pe_fields.specs.Reading.{Read, read_map, text_at}
+use Rattle.pe_fields.specs.Alphabet.{is_text_byte, is_unescaped}
+use Rattle.pe_fields.specs.Reading.{Read, read_map, text_at, drop_while, behind}
 use Rattle.pe_fields.specs.Steps.{escaped_step, text_step}
-use Rattle.pe_fields.proofs.Tools.{chosen, guard_some}
-use Rattle.pe_fields.proofs.Complete.{text_quote, text_other}
+use Rattle.pe_fields.proofs.Tools.{chosen, guard_some, behind_some}
+use Rattle.pe_fields.proofs.Complete.{text_quote, text_other, text_plain}
 
 -- what a step leaves to read
 abbrev pub text_goes : Option (Option ℕ × List ℕ) → Read (List ℕ)
@@ -84,3 +87,37 @@ text_ends front rest after total e so_far =
 
 pub text_fails : (front rest : List ℕ) (total : Read (List ℕ)) → text_step rest ≡ None → with_front front (text_at rest) ≡ total → total ≡ None
 text_fails front rest total e so_far = sym so_far ∙ ap (with_front front) (text_turn rest ∙ ap text_goes e)
+
+no_quote : (b : ℕ) → is_unescaped b ≡ true → eqb b 34 ≡ false
+no_quote b h = grind (arith, nat_tests)
+
+no_backslash : (b : ℕ) → is_unescaped b ≡ true → eqb b 92 ≡ false
+no_backslash b h = grind (arith, nat_tests)
+
+of_text : (b : ℕ) → is_unescaped b ≡ true → is_text_byte b ≡ true
+of_text b h = grind (arith, nat_tests)
+
+one_in_front : (b : ℕ) (front : List ℕ) (read : Read (List ℕ)) → with_front (b ∷ front) read ≡ read_map (λ text. b ∷ text) (with_front front read)
+one_in_front b front None = refl
+one_in_front b front (Some r) = refl
+
+-- the bytes at the front that stand for themselves are read at once
+pub text_run : (text : List ℕ) → with_front (take_while is_unescaped text) (text_at (drop_while is_unescaped text)) ≡ text_at text
+text_run [] = text_begins (text_at [])
+text_run (b ∷ bs) =
+    rw (take_while-cons is_unescaped b bs)
+    ((elim (is_unescaped b) as (λ v. is_unescaped b ≡ v → with_front (cond v (b ∷ take_while is_unescaped bs) []) (text_at (cond v (drop_while is_unescaped bs) (b ∷ bs))) ≡ text_at (b ∷ bs)) [
+      | true ↦ λ e.
+          one_in_front b (take_while is_unescaped bs) (text_at (drop_while is_unescaped bs))
+          ∙ ap (read_map (λ text. b ∷ text)) (text_run bs)
+          ∙ sym (text_plain b bs (no_quote b e) (no_backslash b e) (of_text b e))
+      | false ↦ λ e. text_begins (text_at (b ∷ bs))
+    ]) refl)
+
+-- a string without an escape is the bytes up to its closing quote
+pub text_lent : (text rest : List ℕ) → behind 34 (drop_while is_unescaped text) ≡ Some rest → text_at text ≡ Some (take_while is_unescaped text, rest)
+text_lent text rest e =
+    sym (text_run text)
+    ∙ ap (λ (t : List ℕ). with_front (take_while is_unescaped text) (text_at t)) (behind_some 34 (drop_while is_unescaped text) rest e)
+    ∙ ap (with_front (take_while is_unescaped text)) (text_quote rest)
+    ∙ ap (λ (t : List ℕ). Some (t, rest)) (append-nil (take_while is_unescaped text))

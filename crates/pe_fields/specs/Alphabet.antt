@@ -48,6 +48,10 @@ is_token_byte b = is_alpha b || is_digit b || is_one_of (codes "!#$%&'*+-.^_`|~:
 abbrev pub is_text_byte : ℕ → Bool
 is_text_byte b = nat_le 32 b && nat_le b 126
 
+-- unescaped, a byte of a string that stands for itself: neither the quote nor the backslash
+abbrev pub is_unescaped : ℕ → Bool
+is_unescaped b = (nat_le 32 b && nat_le b 33) || (nat_le 35 b && nat_le b 91) || (nat_le 93 b && nat_le b 126)
+
 -- a byte of base64
 abbrev pub is_base64_byte : ℕ → Bool
 is_base64_byte b = is_alpha b || is_digit b || is_one_of (codes "+/=") b

@@ -3,8 +3,8 @@
 -- This project's own: the classes, as values of the code.
 use Rattle.std.specs.Prelude.{ℕ, Bool}
 use Rattle.pe_fields.specs.declared.class.Class.{Class}
-use Rattle.pe_fields.specs.declared.class.Class.TheVariants.{Space, White, Digit, Key, Token, Base64}
-use Rattle.pe_fields.specs.Alphabet.{is_space, is_white, is_digit, is_key_byte, is_token_byte, is_base64_byte}
+use Rattle.pe_fields.specs.declared.class.Class.TheVariants.{Space, White, Digit, Key, Token, Unescaped, Base64}
+use Rattle.pe_fields.specs.Alphabet.{is_space, is_white, is_digit, is_key_byte, is_token_byte, is_unescaped, is_base64_byte}
 
 -- the byte is of the class
 abbrev pub is_in : Class → ℕ → Bool
@@ -13,4 +13,5 @@ is_in White = is_white
 is_in Digit = is_digit
 is_in Key = is_key_byte
 is_in Token = is_token_byte
+is_in Unescaped = is_unescaped
 is_in Base64 = is_base64_byte

@@ -6,3 +6,4 @@ pub mod Dictionary
 pub mod Classes
 pub mod Gives
 pub mod Steps
+pub mod Texts

@@ -1,7 +1,7 @@
 //! Classes of bytes, and the bytes of a class at the front of a text.
 ghost use Rattle.std.specs.Prelude.{◌≡◌, option_copied, take_while};
 ghost use Rattle.std.specs.List.{prefix_len};
-ghost use Rattle.pe_fields.specs.Alphabet.{is_key_start, is_token_start, is_text_byte, is_alpha, is_key_byte, is_token_byte, is_base64_byte};
+ghost use Rattle.pe_fields.specs.Alphabet.{is_key_start, is_token_start, is_text_byte, is_alpha, is_key_byte, is_token_byte, is_unescaped, is_base64_byte};
 ghost use Rattle.pe_fields.specs.Classes.{is_in};
 ghost use Rattle.pe_fields.specs.Grammar.{AllBytes};
 ghost use Rattle.pe_fields.specs.Reading.{behind, drop_while};
@@ -19,6 +19,8 @@ pub enum Class {
     Key,
     /// The further bytes of a token.
     Token,
+    /// The bytes of a string that stand for themselves.
+    Unescaped,
     /// The bytes of base64.
     Base64,
 }
@@ -82,6 +84,12 @@ fn is_token_byte(byte: u8) -> bool
         )
 }
 
+fn is_unescaped(byte: u8) -> bool
+    ensures { result ≡ is_unescaped byte }
+{
+    matches!(byte, b' '..=b'!' | b'#'..=b'[' | b']'..=b'~')
+}
+
 fn is_base64_byte(byte: u8) -> bool
     ensures { result ≡ is_base64_byte byte }
 {
@@ -99,6 +107,7 @@ impl Class {
             Class::Digit => matches!(byte, b'0'..=b'9'),
             Class::Key => is_key_byte(byte),
             Class::Token => is_token_byte(byte),
+            Class::Unescaped => is_unescaped(byte),
             Class::Base64 => is_base64_byte(byte),
         }
     }

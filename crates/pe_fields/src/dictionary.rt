@@ -6,19 +6,19 @@ ghost use Rattle.pe_fields.specs.Grammar.{IsField};
 ghost use Rattle.pe_fields.specs.Reading.{dictionary};
 
 use crate::fault::Fault;
+use crate::lent::Lent;
 use crate::reading::dictionary;
 use crate::value::Member;
-use pe_base::Bytes;
 use std::alloc::{AllocError, Global};
 use std::marker::Model;
 
 /// A dictionary, seen as the list of its keys and members in their order, with repeats.
 #[derive(Debug, Drop)]
-pub struct Dictionary {
-    members: Vec<(Bytes, Member)>,
+pub struct Dictionary<'a> {
+    members: Vec<(Lent<'a>, Member<'a>)>,
 }
 
-impl Model for Dictionary {
+impl<'a> Model for Dictionary<'a> {
     ghost use Rattle.std.specs.Prelude.{List, ℕ};
     ghost use Rattle.pe_fields.specs.declared.value.Member.{Member};
 
@@ -27,9 +27,10 @@ impl Model for Dictionary {
     ghost view = { λ d. d.members.items };
 }
 
-impl Dictionary {
+impl<'a> Dictionary<'a> {
     /// The last member of a key; None where the key has no member.
-    pub fn get(&self, key: &[u8]) -> Option<&Member>
+    #[tactic(auto, using(crate::proofs::Last::found_none))]
+    pub fn get(&self, key: &[u8]) -> Option<&Member<'a>>
         ensures value { option_copied result ≡ last_of self.now key.now }
         ensures none { IsNone result ↔ All (λ entry. entry.0 ≢ key.now) self.now }
     {
@@ -37,23 +38,22 @@ impl Dictionary {
     }
 }
 
-/// The last of the members under a key.
-fn last<'a>(entries: &'a [(Bytes, Member)], key: &[u8]) -> Option<&'a Member>
-    ensures value { option_copied result ≡ last_of entries.now key.now }
-    ensures none { IsNone result ↔ All (λ entry. entry.0 ≢ key.now) entries.now }
+/// The last of the members under a key, looked for from the last member on.
+fn last<'s, 'a>(entries: &'s [(Lent<'a>, Member<'a>)], key: &[u8]) -> Option<&'s Member<'a>>
+    ensures { option_copied result ≡ last_of entries.now key.now }
 {
-    let mut found = None;
-    for entry in entries {
+    for i in 0..entries.len() {
+        let entry = &entries[entries.len() - 1 - i];
         if entry.0.as_slice() == key {
-            found = Some(&entry.1);
+            return Some(&entry.1);
         }
     }
-    found
+    None
 }
 
 /// The dictionary that the bytes of a field spell; None where they are not in the grammar. It is read
-/// in one pass, and only keys, strings, tokens and byte sequences are copied.
-pub fn parse_dictionary(alloc: Global, bytes: &[u8]) -> Result<Option<Dictionary>, AllocError>
+/// in one pass, and only the bytes of a string with an escape are copied.
+pub fn parse_dictionary(alloc: Global, bytes: &[u8]) -> Result<Option<Dictionary<'_>>, AllocError>
     // What the reading of the text finds.
     ensures value { IfOk result (λ found. found ≡ dictionary bytes.now) }
     // What is read is in the grammar, and what is not read is not.

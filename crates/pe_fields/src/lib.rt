@@ -5,6 +5,7 @@ mod class;
 mod dictionary;
 mod fault;
 mod laws;
+mod lent;
 mod number;
 mod reading;
 mod text;
@@ -12,6 +13,7 @@ mod value;
 
 pub use dictionary::{Dictionary, parse_dictionary};
 pub use laws::{one_reading, reading_is_the_grammar};
+pub use lent::{Lent, Text};
 pub use value::{Bare, Item, Items, Member, Param, Params, Value};
 
 #[cfg(test)]

@@ -49,7 +49,7 @@ fn signed(negative: bool, value: u64) -> i64
 }
 
 /// An integer of these digits, of which there are 1 to 15.
-fn integer(negative: bool, digits: &[u8]) -> Option<Bare>
+fn integer(negative: bool, digits: &[u8]) -> Option<Bare<'_>>
     requires { AllBytes is_digit digits.now }
     ensures { result ≡ integer_of negative digits.now }
 {
@@ -60,7 +60,7 @@ fn integer(negative: bool, digits: &[u8]) -> Option<Bare>
 }
 
 /// A decimal of these digits, 1 to 12 before the point and 1 to 3 behind it.
-fn decimal(negative: bool, whole: &[u8], fraction: &[u8]) -> Option<Bare>
+fn decimal<'a>(negative: bool, whole: &'a [u8], fraction: &'a [u8]) -> Option<Bare<'a>>
     requires whole { AllBytes is_digit whole.now }
     requires fraction { AllBytes is_digit fraction.now }
     ensures { result ≡ decimal_of negative whole.now fraction.now }
@@ -74,7 +74,7 @@ fn decimal(negative: bool, whole: &[u8], fraction: &[u8]) -> Option<Bare>
 
 /// The number at the front, behind its sign.
 #[tactic(auto, unfolding(crate::specs::Reading::number_at))]
-pub fn number(negative: bool, bytes: &[u8]) -> Option<(Bare, &[u8])>
+pub fn number(negative: bool, bytes: &[u8]) -> Option<(Bare<'_>, &[u8])>
     ensures { option_map (λ x. (x.0, x.1.now)) result ≡ number_at negative bytes.now }
 {
     let (whole, rest) = run(Class::Digit, bytes);

@@ -6,10 +6,10 @@ ghost use Rattle.pe_fields.specs.Reading.{bare_at, begins, binary_at, given_at, 
 
 use crate::class::{Class, behind, is_key_start, is_token_start, run, skip};
 use crate::fault::Fault;
+use crate::lent::Lent;
 use crate::number::number;
 use crate::text::text;
 use crate::value::{Bare, Item, Items, Member, Param, Params, Value};
-use pe_base::Bytes;
 use std::alloc::Global;
 
 /// Whether a key begins here.
@@ -24,26 +24,24 @@ fn begins_key(bytes: &[u8]) -> bool
 
 /// The key at the front (section 4.2.3.3).
 #[tactic(auto, using(crate::proofs::Runs::key_none, crate::proofs::Runs::key_some))]
-fn key(alloc: Global, bytes: &[u8]) -> Result<(Bytes, &[u8]), Fault>
-    ensures { Gives (λ x. (x.0, x.1.now)) result (key_at bytes.now) }
+fn key(bytes: &[u8]) -> Option<(Lent<'_>, &[u8])>
+    ensures { option_map (λ x. (x.0, x.1.now)) result ≡ key_at bytes.now }
 {
     if !begins_key(bytes) {
-        return Err(Fault::Malformed);
+        return None;
     }
     let (key, rest) = run(Class::Key, bytes);
-    Ok((Bytes::of(key.to_vec(alloc)?), rest))
+    Some((Lent::of(key), rest))
 }
 
 /// The bytes of a byte sequence behind its opening colon (section 4.2.7).
 #[tactic(auto, unfolding(crate::specs::Reading::binary_at))]
-fn binary(alloc: Global, bytes: &[u8]) -> Result<(Bytes, &[u8]), Fault>
-    ensures { Gives (λ x. (x.0, x.1.now)) result (binary_at bytes.now) }
+fn binary(bytes: &[u8]) -> Option<(Lent<'_>, &[u8])>
+    ensures { option_map (λ x. (x.0, x.1.now)) result ≡ binary_at bytes.now }
 {
     let (binary, rest) = run(Class::Base64, bytes);
-    let Some(rest) = behind(b':', rest) else {
-        return Err(Fault::Malformed);
-    };
-    Ok((Bytes::of(binary.to_vec(alloc)?), rest))
+    let rest = behind(b':', rest)?;
+    Some((Lent::of(binary), rest))
 }
 
 /// The truth value behind a question mark (section 4.2.8).
@@ -60,7 +58,7 @@ fn truth(bytes: &[u8]) -> Option<(bool, &[u8])>
 
 /// The bare item at the front, told by its first byte (section 4.2.3.1).
 #[tactic(auto, unfolding(crate::specs::Reading::bare_at))]
-fn bare(alloc: Global, bytes: &[u8]) -> Result<(Bare, &[u8]), Fault>
+fn bare(alloc: Global, bytes: &[u8]) -> Result<(Bare<'_>, &[u8]), Fault>
     ensures { Gives (λ x. (x.0, x.1.now)) result (bare_at bytes.now) }
 {
     let Some((first, rest)) = bytes.split_first() else {
@@ -71,7 +69,7 @@ fn bare(alloc: Global, bytes: &[u8]) -> Result<(Bare, &[u8]), Fault>
         return Ok((Bare::Text(text), rest));
     }
     if *first == b':' {
-        let (binary, rest) = binary(alloc, rest)?;
+        let (binary, rest) = binary(rest).ok_or(Fault::Malformed)?;
         return Ok((Bare::Binary(binary), rest));
     }
     if *first == b'?' {
@@ -80,7 +78,7 @@ fn bare(alloc: Global, bytes: &[u8]) -> Result<(Bare, &[u8]), Fault>
     }
     if is_token_start(*first) {
         let (token, rest) = run(Class::Token, bytes);
-        return Ok((Bare::Token(Bytes::of(token.to_vec(alloc)?)), rest));
+        return Ok((Bare::Token(Lent::of(token)), rest));
     }
     if *first == b'-' {
         return number(true, rest).ok_or(Fault::Malformed);
@@ -90,7 +88,7 @@ fn bare(alloc: Global, bytes: &[u8]) -> Result<(Bare, &[u8]), Fault>
 
 /// The value of a parameter, true where none is given.
 #[tactic(auto, unfolding(crate::specs::Reading::given_at))]
-fn given(alloc: Global, bytes: &[u8]) -> Result<(Bare, &[u8]), Fault>
+fn given(alloc: Global, bytes: &[u8]) -> Result<(Bare<'_>, &[u8]), Fault>
     ensures { Gives (λ x. (x.0, x.1.now)) result (given_at bytes.now) }
 {
     match behind(b'=', bytes) {
@@ -101,19 +99,19 @@ fn given(alloc: Global, bytes: &[u8]) -> Result<(Bare, &[u8]), Fault>
 
 /// The parameter at the front, with its semicolon.
 #[tactic(auto, unfolding(crate::specs::Reading::param_at))]
-fn param(alloc: Global, bytes: &[u8]) -> Result<(Param, &[u8]), Fault>
+fn param(alloc: Global, bytes: &[u8]) -> Result<(Param<'_>, &[u8]), Fault>
     ensures { Gives (λ x. (x.0, x.1.now)) result (param_at bytes.now) }
 {
     let Some(rest) = behind(b';', bytes) else {
         return Err(Fault::Malformed);
     };
-    let (key, rest) = key(alloc, skip(Class::Space, rest))?;
+    let (key, rest) = key(skip(Class::Space, rest)).ok_or(Fault::Malformed)?;
     let (value, rest) = given(alloc, rest)?;
     Ok((Param { key, value }, rest))
 }
 
 /// The parameters at the front, as many as there are (section 4.2.3.2).
-fn params(alloc: Global, bytes: &[u8]) -> Result<(Params, &[u8]), Fault>
+fn params(alloc: Global, bytes: &[u8]) -> Result<(Params<'_>, &[u8]), Fault>
     ensures { Gives (λ x. (x.0, x.1.now)) result (Some (params_at bytes.now)) }
 {
     let mut params = Vec::new(alloc);
@@ -132,7 +130,7 @@ fn params(alloc: Global, bytes: &[u8]) -> Result<(Params, &[u8]), Fault>
 
 /// The item at the front (section 4.2.3).
 #[tactic(auto, unfolding(crate::specs::Reading::item_at))]
-fn item(alloc: Global, bytes: &[u8]) -> Result<(Item, &[u8]), Fault>
+fn item(alloc: Global, bytes: &[u8]) -> Result<(Item<'_>, &[u8]), Fault>
     ensures { Gives (λ x. (x.0, x.1.now)) result (item_at bytes.now) }
 {
     let (bare, rest) = bare(alloc, bytes)?;
@@ -142,7 +140,7 @@ fn item(alloc: Global, bytes: &[u8]) -> Result<(Item, &[u8]), Fault>
 
 /// A further item of an inner list, with the spaces before it.
 #[tactic(auto, unfolding(crate::specs::Reading::next_item_at))]
-fn next_item(alloc: Global, bytes: &[u8]) -> Result<(Item, &[u8]), Fault>
+fn next_item(alloc: Global, bytes: &[u8]) -> Result<(Item<'_>, &[u8]), Fault>
     ensures { Gives (λ x. (x.0, x.1.now)) result (next_item_at bytes.now) }
 {
     let Some(rest) = behind(b' ', bytes) else {
@@ -152,8 +150,12 @@ fn next_item(alloc: Global, bytes: &[u8]) -> Result<(Item, &[u8]), Fault>
 }
 
 /// The first item and those behind it, as many as there are.
-fn items_from(alloc: Global, first: Item, bytes: &[u8]) -> Result<(Items, &[u8]), Fault>
-    ensures { Gives (λ x. (x.0, x.1.now)) result (Some (items_from (first, bytes.now))) }
+fn items_from<'a>(
+    alloc: Global,
+    first: Item<'a>,
+    bytes: &'a [u8],
+) -> Result<(Items<'a>, &'a [u8]), Fault>
+    ensures { Gives (λ x. (x.0, x.1.now)) result (Some (items_from (first.entry, bytes.now))) }
 {
     let mut items = Vec::new(alloc);
     items.push(first)?;
@@ -172,7 +174,7 @@ fn items_from(alloc: Global, first: Item, bytes: &[u8]) -> Result<(Items, &[u8])
 
 /// The items of an inner list, none or some.
 #[tactic(auto, unfolding(crate::specs::Reading::items_at))]
-fn items(alloc: Global, bytes: &[u8]) -> Result<(Items, &[u8]), Fault>
+fn items(alloc: Global, bytes: &[u8]) -> Result<(Items<'_>, &[u8]), Fault>
     ensures { Gives (λ x. (x.0, x.1.now)) result (Some (items_at bytes.now)) }
 {
     match item(alloc, bytes) {
@@ -184,7 +186,7 @@ fn items(alloc: Global, bytes: &[u8]) -> Result<(Items, &[u8]), Fault>
 
 /// The inner list behind its opening parenthesis (section 4.2.1.2).
 #[tactic(auto, unfolding(crate::specs::Reading::inner_at))]
-fn inner(alloc: Global, bytes: &[u8]) -> Result<(Items, &[u8]), Fault>
+fn inner(alloc: Global, bytes: &[u8]) -> Result<(Items<'_>, &[u8]), Fault>
     ensures { Gives (λ x. (x.0, x.1.now)) result (inner_at bytes.now) }
 {
     let (items, rest) = items(alloc, skip(Class::Space, bytes))?;
@@ -196,7 +198,7 @@ fn inner(alloc: Global, bytes: &[u8]) -> Result<(Items, &[u8]), Fault>
 
 /// The inner list or bare item at the front.
 #[tactic(auto, unfolding(crate::specs::Reading::listed_at))]
-fn listed(alloc: Global, bytes: &[u8]) -> Result<(Value, &[u8]), Fault>
+fn listed(alloc: Global, bytes: &[u8]) -> Result<(Value<'_>, &[u8]), Fault>
     ensures { Gives (λ x. (x.0, x.1.now)) result (listed_at bytes.now) }
 {
     let Some(rest) = behind(b'(', bytes) else {
@@ -209,7 +211,7 @@ fn listed(alloc: Global, bytes: &[u8]) -> Result<(Value, &[u8]), Fault>
 
 /// The value of a member, true where none is given.
 #[tactic(auto, unfolding(crate::specs::Reading::value_at))]
-fn value(alloc: Global, bytes: &[u8]) -> Result<(Value, &[u8]), Fault>
+fn value(alloc: Global, bytes: &[u8]) -> Result<(Value<'_>, &[u8]), Fault>
     ensures { Gives (λ x. (x.0, x.1.now)) result (value_at bytes.now) }
 {
     match behind(b'=', bytes) {
@@ -220,10 +222,10 @@ fn value(alloc: Global, bytes: &[u8]) -> Result<(Value, &[u8]), Fault>
 
 /// The member at the front, with its key.
 #[tactic(auto, unfolding(crate::specs::Reading::member_at))]
-fn member(alloc: Global, bytes: &[u8]) -> Result<((Bytes, Member), &[u8]), Fault>
+fn member(alloc: Global, bytes: &[u8]) -> Result<((Lent<'_>, Member<'_>), &[u8]), Fault>
     ensures { Gives (λ x. (x.0, x.1.now)) result (member_at bytes.now) }
 {
-    let (key, rest) = key(alloc, bytes)?;
+    let (key, rest) = key(bytes).ok_or(Fault::Malformed)?;
     let (value, rest) = value(alloc, rest)?;
     let (params, rest) = params(alloc, rest)?;
     Ok(((key, Member { value, params }), rest))
@@ -231,7 +233,7 @@ fn member(alloc: Global, bytes: &[u8]) -> Result<((Bytes, Member), &[u8]), Fault
 
 /// A further member, with the comma before it.
 #[tactic(auto, unfolding(crate::specs::Reading::next_member_at))]
-fn next_member(alloc: Global, bytes: &[u8]) -> Result<((Bytes, Member), &[u8]), Fault>
+fn next_member(alloc: Global, bytes: &[u8]) -> Result<((Lent<'_>, Member<'_>), &[u8]), Fault>
     ensures { Gives (λ x. (x.0, x.1.now)) result (next_member_at bytes.now) }
 {
     let Some(rest) = behind(b',', skip(Class::White, bytes)) else {
@@ -240,15 +242,18 @@ fn next_member(alloc: Global, bytes: &[u8]) -> Result<((Bytes, Member), &[u8]), 
     member(alloc, skip(Class::White, rest))
 }
 
+/// The bytes that a member with its comma takes about, by which room is taken ahead.
+const MEMBER_LENGTH: usize = 16;
+
 /// The first member and those behind it, as many as there are.
-fn members_from(
+fn members_from<'a>(
     alloc: Global,
-    first: (Bytes, Member),
-    bytes: &[u8],
-) -> Result<(Vec<(Bytes, Member)>, &[u8]), Fault>
-    ensures { Gives (λ x. (x.0.items, x.1.now)) result (Some (members_from (first, bytes.now))) }
+    first: (Lent<'a>, Member<'a>),
+    bytes: &'a [u8],
+) -> Result<(Vec<(Lent<'a>, Member<'a>)>, &'a [u8]), Fault>
+    ensures { Gives (λ x. (x.0.items, x.1.now)) result (Some (members_from (first.entry, bytes.now))) }
 {
-    let mut members = Vec::new(alloc);
+    let mut members = Vec::with_capacity(alloc, bytes.len() / MEMBER_LENGTH + 1)?;
     members.push(first)?;
     let mut rest = bytes;
     'members: loop {
@@ -265,7 +270,7 @@ fn members_from(
 
 /// The members of a whole text (section 4.2.2).
 #[tactic(auto, unfolding(crate::specs::Reading::dictionary, crate::specs::Reading::members_of))]
-pub fn dictionary(alloc: Global, bytes: &[u8]) -> Result<Vec<(Bytes, Member)>, Fault>
+pub fn dictionary(alloc: Global, bytes: &[u8]) -> Result<Vec<(Lent<'_>, Member<'_>)>, Fault>
     ensures { Gives (λ v. v.items) result (dictionary bytes.now) }
 {
     let listed = skip(Class::Space, bytes);

@@ -46,7 +46,7 @@ fn has_bytes(alloc: Global, text: &str, kind: u8, bytes: &[u8]) -> Result<bool, 
     }
 }
 
-fn is_bytes(bare: &Bare, kind: u8, bytes: &[u8]) -> bool {
+fn is_bytes(bare: &Bare<'_>, kind: u8, bytes: &[u8]) -> bool {
     match bare {
         Bare::Text(text) => kind == b's' && text.as_slice() == bytes,
         Bare::Token(token) => kind == b't' && token.as_slice() == bytes,
@@ -55,7 +55,7 @@ fn is_bytes(bare: &Bare, kind: u8, bytes: &[u8]) -> bool {
     }
 }
 
-fn is_truth(found: &Dictionary, key: &[u8], truth: bool) -> bool {
+fn is_truth(found: &Dictionary<'_>, key: &[u8], truth: bool) -> bool {
     match found.get(key) {
         Some(
             Member {
@@ -227,11 +227,11 @@ fn bytes(rt: HostRuntime) -> Result<(), Fail> {
     Ok(())
 }
 
-fn has_key(param: &Param, key: &[u8]) -> bool {
+fn has_key(param: &Param<'_>, key: &[u8]) -> bool {
     param.key.as_slice() == key
 }
 
-fn is_item(item: &Item, kind: u8, bytes: &[u8], params: usize) -> bool {
+fn is_item(item: &Item<'_>, kind: u8, bytes: &[u8], params: usize) -> bool {
     is_bytes(&item.bare, kind, bytes) && item.params.as_slice().len() == params
 }
 

@@ -17,7 +17,7 @@ use std::alloc::{AllocError, Global};
 /// feature is not policy-controlled.
 fn read_feature(
     alloc: Global,
-    members: &Dictionary,
+    members: &Dictionary<'_>,
     own: &Origin,
     feature: Feature,
 ) -> Result<Option<Allowlist>, AllocError>
@@ -36,7 +36,7 @@ fn read_feature(
 fn put_feature(
     alloc: Global,
     declared: &mut Declared,
-    members: &Dictionary,
+    members: &Dictionary<'_>,
     own: &Origin,
     feature: Feature,
 ) -> Result<(), AllocError>
@@ -53,7 +53,11 @@ fn put_feature(
 }
 
 /// The declared policy of the dictionary.
-fn read_members(alloc: Global, members: &Dictionary, own: &Origin) -> Result<Declared, AllocError>
+fn read_members(
+    alloc: Global,
+    members: &Dictionary<'_>,
+    own: &Origin,
+) -> Result<Declared, AllocError>
     ensures { IfOk result (λ declared. (f : Feature) → lists_of declared f ≡ spec.list_of_members own.now f members.now) }
 {
     let mut declared = Declared::empty(alloc);

@@ -30,7 +30,7 @@ fn put_bare(
     alloc: Global,
     list: &mut Allowlist,
     own: &Origin,
-    bare: &Bare,
+    bare: &Bare<'_>,
 ) -> Result<bool, AllocError>
     ensures known { IfOk result (λ known. known ≡ is_some (spec.with_bare own.now list.old bare.now)) }
     ensures list { OnOk result (list.new ≡ unwrap_or (spec.with_bare own.now list.old bare.now) list.old) }
@@ -52,7 +52,7 @@ fn put_items(
     alloc: Global,
     list: &mut Allowlist,
     own: &Origin,
-    items: &[Item],
+    items: &[Item<'_>],
 ) -> Result<(), AllocError>
     ensures { OnOk result (list.new ≡ fold (spec.with_item own.now) list.old items.now) }
 {
@@ -67,7 +67,7 @@ fn put_items(
 pub(crate) fn read_value(
     alloc: Global,
     own: &Origin,
-    value: &Value,
+    value: &Value<'_>,
 ) -> Result<Option<Allowlist>, AllocError>
     ensures { IfOk result (λ list. list ≡ spec.list_of_value own.now value.now) }
 {

@@ -76,10 +76,10 @@ fn kind_without_tuple(url: &Url) -> PlaceKind
 fn tuple_of(alloc: Global, scheme: Scheme, url: &Url) -> Result<Tuple, AllocError>
     ensures { IfOk result (λ tuple. tuple ≡ spec.tuple_of scheme url.now) }
 {
-    let host = url.host_str().unwrap_or("").as_bytes().to_vec(alloc)?;
+    let host = url.host_str().unwrap_or("").as_bytes();
     Ok(Tuple {
         scheme,
-        host: Bytes::of(host),
+        host: Bytes::copy_of(alloc, host)?,
         form: form_of(url),
         port: url.port().unwrap_or(scheme.default_port()),
     })
@@ -107,7 +107,7 @@ fn net_place(alloc: Global, authority: Authority<'_>) -> Result<Place, AllocErro
 {
     let tuple = Tuple {
         scheme: authority.scheme,
-        host: Bytes::of(authority.host.to_vec(alloc)?),
+        host: Bytes::copy_of(alloc, authority.host)?,
         form: HostForm::Domain,
         port: authority.port,
     };

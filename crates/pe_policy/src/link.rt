@@ -127,8 +127,9 @@ fn own_rule(declared: &Declared, origin: &Origin, feature: Feature) -> Option<Li
     }
 }
 
-/// The first of the four tests between an embedder and its child that fails; None where none of them
-/// fails, or the feature is not policy-controlled.
+/// The first of the four tests between an embedder and its child that fails: `EmbedderSelf`,
+/// `EmbedderHeader`, `Allow`, `Default`. None where none of them fails, or the feature is not
+/// policy-controlled. What stands above the embedder is not asked; `Policy::why` has the whole chain.
 pub fn first_link(
     parent: &Declared,
     parent_origin: &Origin,

@@ -111,8 +111,8 @@ impl Policy {
         }
     }
 
-    /// The policy of a child, from its embedder's, from the container policy that its embedder's frame
-    /// gives it, and from what its own header declares.
+    /// The policy of a child: from the policy and the origin of its embedder, from the container policy that
+    /// the element of its frame gives, and from its own origin, what its header declares, and its number.
     pub fn make_child(
         parent: &Policy,
         parent_origin: &Origin,

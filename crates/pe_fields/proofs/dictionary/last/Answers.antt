@@ -1,30 +1,43 @@
-use Rattle.std.proofs.Common.{◌≡◌, ◌+◌, true, false, take, sym, ap, ◌∙◌, refl, rules}
+use Rattle.std.proofs.Common.{◌≡◌, ℕ, ◌+◌, ◌-◌, true, false, length, take, None, Some, sym, ap, ◌∙◌, refl, arith}
 use Rattle.std.specs.Option.{option_or}
 use Rattle.std.specs.Prelude.{bytes_eq}
-use Rattle.std.proofs.lemmas.List.{take_all}
 use Rattle.pe_fields.specs.Dictionary.{last_of, member_under}
-use Rattle.pe_fields.proofs.Last.{found_none, last_more, last_none}
+use Rattle.pe_fields.proofs.Last.{last_more, last_none}
 use Rattle.pe_fields.proofs.dictionary.last.Goals as goal
-use Rattle.pe_fields.proofs.dictionary.last.Goals.{then-eq, else-eq}
 
-pub loop-entry-init : goal.loop-entry-init
-loop-entry-init c = sym (last_none c.args.key.now)
-
-pub loop-entry-preserved : goal.loop-entry-preserved
-loop-entry-preserved c =
+pub returns-then-eq : goal.returns-then-eq
+returns-then-eq c =
+    let entries = c.args.entries.now in
     let key = c.args.key.now in
-    let entry = c.entry-item.result in
-    let step : last_of (take (c.loop-entry.entry-index + 1) c.args.entries.now) key ≡ option_or (member_under key entry) (last_of (take c.loop-entry.entry-index c.args.entries.now) key) =
-    last_more c.args.entries.now c.loop-entry.entry-index key entry c.loop-entry-test.true c.entry-item.is in
+    let entry = c.index-entries-entries.result in
+    let place : ℕ = length entries - 1 - c.loop-i.i in
+    let step : last_of (take (place + 1) entries) key ≡ option_or (member_under key entry) (last_of (take place entries) key) =
+    last_more entries place key entry (omega (arith, c.loop-i-test.true)) c.index-entries-entries.is in
     let test : c.eq.result ≡ bytes_eq entry.0 key = rw (← c.as_slice.ensures) c.eq.ensures in
-    elim c.if-eq.branch [
-      | then-eq w ↦
-          let same : bytes_eq entry.0 key ≡ true = sym test ∙ w.if-eq.true in
-          rw (w.found-is, step, same) refl
-      | else-eq w ↦
-          let other : bytes_eq entry.0 key ≡ false = sym test ∙ w.if-eq.false in
-          rw (w.found-is, step, other) c.loop-entry.invariant
-    ]
+    let same : bytes_eq entry.0 key ≡ true = sym test ∙ c.if-eq.true in
+    let here : option_or (member_under key entry) (last_of (take place entries) key) ≡ Some entry.1 = rw same refl in
+    let count : place + 1 ≡ length entries - c.loop-i.i = omega (arith, c.loop-i-test.true) in
+    sym here ∙ sym step ∙ ap (λ (k : ℕ). last_of (take k entries) key) count ∙ c.loop-i.invariant
 
-pub returns-clause-none : goal.returns-clause-none
-returns-clause-none c = found_none c.args.entries.now c.args.key.now c.loop-entry.found (c.loop-entry.invariant ∙ ap (λ x. last_of x c.args.key.now) (take_all c.loop-entry.entry-index c.args.entries.now (search rules)))
+pub loop-i-preserved : goal.loop-i-preserved
+loop-i-preserved c =
+    let entries = c.args.entries.now in
+    let key = c.args.key.now in
+    let entry = c.index-entries-entries.result in
+    let place : ℕ = length entries - 1 - c.loop-i.i in
+    let step : last_of (take (place + 1) entries) key ≡ option_or (member_under key entry) (last_of (take place entries) key) =
+    last_more entries place key entry (omega (arith, c.loop-i-test.true)) c.index-entries-entries.is in
+    let test : c.eq.result ≡ bytes_eq entry.0 key = rw (← c.as_slice.ensures) c.eq.ensures in
+    let other : bytes_eq entry.0 key ≡ false = sym test ∙ c.if-eq.false in
+    let apart : option_or (member_under key entry) (last_of (take place entries) key) ≡ last_of (take place entries) key = rw other refl in
+    let count : place + 1 ≡ length entries - c.loop-i.i = omega (arith, c.loop-i-test.true) in
+    let fewer : length entries - (c.loop-i.i + 1) ≡ place = omega arith in
+    ap (λ (k : ℕ). last_of (take k entries) key) fewer ∙ sym apart ∙ sym step ∙ ap (λ (k : ℕ). last_of (take k entries) key) count ∙ c.loop-i.invariant
+
+pub returns : goal.returns
+returns c =
+    let entries = c.args.entries.now in
+    let key = c.args.key.now in
+    let nothing : last_of (take 0 entries) key ≡ None = last_none key in
+    let left : 0 ≡ length entries - c.loop-i.i = omega (arith, c.loop-i-test.false) in
+    sym nothing ∙ ap (λ (k : ℕ). last_of (take k entries) key) left ∙ c.loop-i.invariant

@@ -5,7 +5,7 @@ use Rattle.pe_fields.proofs.Sound.{next_member_shrinks}
 use Rattle.pe_fields.proofs.reading.members_from.Goals as goal
 
 pub members-init : goal.members-init
-members-init c = rw (c.in_ok-push.ensures.items, c.new-members.ensures.items) refl
+members-init c = rw (c.in_ok-push.ensures.items, c.in_ok-members.ensures.items) refl
 
 pub members-smaller : goal.members-smaller
 members-smaller c = next_member_shrinks c.members.rest.now _ c.in-Ok.ensures

@@ -1,7 +1,7 @@
 use Rattle.std.proofs.Common.{◌≡◌, Some, None, sym, refl}
 use Rattle.pe_fields.specs.Steps.{text_step}
 use Rattle.pe_fields.proofs.Texts.{text_fails, text_ends, text_goes_on}
-use Rattle.pe_fields.proofs.text.text.Goals as goal
+use Rattle.pe_fields.proofs.text.escaped_text.Goals as goal
 
 pub returns-in-None : goal.returns-in-None
 returns-in-None c = text_fails c.bytes.text.items c.bytes.rest.now _ (sym c.in-None.ensures) c.bytes.invariant
