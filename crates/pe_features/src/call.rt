@@ -99,6 +99,29 @@ impl Call {
         row_named(&Call::ALL, text)
     }
 
+    /// The call's name, as scripts write it: lower-case letters and dashes.
+    pub fn name(self) -> &'static str
+        ensures name { result.now ≡ call_name self }
+        ensures distinct { (c : Call) → result.now ≡ call_name c → c ≡ self }
+    {
+        match self {
+            Call::GetPosition => "get-position",
+            Call::GetUserMediaCamera => "get-user-media-camera",
+            Call::GetUserMediaMicrophone => "get-user-media-microphone",
+            Call::GetDisplayMedia => "get-display-media",
+            Call::RequestFullscreen => "request-fullscreen",
+            Call::ShowPayment => "show-payment",
+            Call::ClipboardReadText => "clipboard-read-text",
+            Call::ClipboardWriteText => "clipboard-write-text",
+            Call::PlayAudio => "play-audio",
+            Call::Vibrate => "vibrate",
+            Call::OpenWindow => "open-window",
+            Call::ShowNotification => "show-notification",
+            Call::RequestPictureInPicture => "request-picture-in-picture",
+            Call::RequestStorageAccess => "request-storage-access",
+        }
+    }
+
     /// What the call wants: its row of the table.
     pub fn gate_of(self) -> Gate
         ensures row { result ≡ gate_of self }
@@ -225,21 +248,6 @@ impl Named for Call {
     ghost name_of = { call_name };
 
     fn name(self) -> &'static str {
-        match self {
-            Call::GetPosition => "get-position",
-            Call::GetUserMediaCamera => "get-user-media-camera",
-            Call::GetUserMediaMicrophone => "get-user-media-microphone",
-            Call::GetDisplayMedia => "get-display-media",
-            Call::RequestFullscreen => "request-fullscreen",
-            Call::ShowPayment => "show-payment",
-            Call::ClipboardReadText => "clipboard-read-text",
-            Call::ClipboardWriteText => "clipboard-write-text",
-            Call::PlayAudio => "play-audio",
-            Call::Vibrate => "vibrate",
-            Call::OpenWindow => "open-window",
-            Call::ShowNotification => "show-notification",
-            Call::RequestPictureInPicture => "request-picture-in-picture",
-            Call::RequestStorageAccess => "request-storage-access",
-        }
+        self.name()
     }
 }

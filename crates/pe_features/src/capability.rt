@@ -35,6 +35,18 @@ impl Capability {
         row_named(&Capability::ALL, text)
     }
 
+    /// The capability's name, as scripts write it: lower-case letters and dashes.
+    pub fn name(self) -> &'static str
+        ensures name { result.now ≡ capability_name self }
+        ensures distinct { (c : Capability) → result.now ≡ capability_name c → c ≡ self }
+    {
+        match self {
+            Capability::Payment => "payment",
+            Capability::Fullscreen => "fullscreen",
+            Capability::DisplayCapture => "display-capture",
+        }
+    }
+
     /// The policy-controlled feature that the capability is for.
     pub fn feature_of(self) -> Feature
         ensures { result ≡ feature_of self }
@@ -51,10 +63,6 @@ impl Named for Capability {
     ghost name_of = { capability_name };
 
     fn name(self) -> &'static str {
-        match self {
-            Capability::Payment => "payment",
-            Capability::Fullscreen => "fullscreen",
-            Capability::DisplayCapture => "display-capture",
-        }
+        self.name()
     }
 }
