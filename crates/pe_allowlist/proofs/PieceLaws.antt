@@ -129,6 +129,17 @@ piece-put embedder declared piece items rest name g f list old new w e h l n =
     let words : ascii_words piece ≡ name.now ∷ texts rest = sym w ∙ ap (λ (xs : List (Bor (List ℕ))). texts xs) e in
     n ∙ rw (words, ← l) (sym (named-piece g f name.now list old h))
 
+-- ---- a text without pieces to read
+
+neither : {A : Type 0} (b : Bool) → ◌≡◌ {A = Option A} (cond b None None) None
+neither true = refl
+neither false = refl
+
+pub no-pieces : (embedder : Origin) (declared : DeclaredOrigin) (f : Feature) (text : List ℕ) → (length text == 0) ≡ true → list_by_pieces embedder declared f (pieces_at is_semicolon text) ≡ None
+unfolding list_by_pieces pieces_at ascii_words
+no-pieces embedder declared f [] e = neither (is_policy_controlled f)
+no-pieces embedder declared f (b ∷ text) e = absurd (grind (arith, nat_tests))
+
 -- ---- a text that may be missing
 
 pub text-or-empty : (text : Option (Bor (List ℕ))) (empty : Bor (List ℕ)) → empty.now ≡ [] → (unwrap_or text empty).now ≡ unwrap_or (option_copied text) []

@@ -131,8 +131,11 @@ fn read_pieces(
         ≡ spec.list_by_pieces embedder.now declared.now f (pieces_at spec.is_semicolon text.now)) }
     ensures once { IfOk result (λ rows. NoFeatureTwice rows.items) }
 {
-    let pieces = pieces(alloc, text)?;
     let mut rows = Vec::new(alloc);
+    if text.is_empty() {
+        return Ok(rows);
+    }
+    let pieces = pieces(alloc, text)?;
     for piece in &pieces {
         put_piece(alloc, &mut rows, embedder, declared, piece)?;
     }
