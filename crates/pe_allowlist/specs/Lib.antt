@@ -3,3 +3,4 @@ pub mod Lists
 pub mod Expressions
 pub mod Allowlists
 pub mod ContainerPolicy
+pub mod DeclaredLists

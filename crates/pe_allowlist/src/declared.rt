@@ -1,60 +1,69 @@
 //! Declared policies: what a header declares for its own document.
-ghost use Rattle.std.specs.Prelude.{◌≡◌, Some, OnOk, OnErr, [], if◌then◌else◌};
-ghost use Rattle.std.specs.Option.{option_copied};
+ghost use Rattle.std.specs.Prelude.{◌≡◌, IfOk, option_map};
 ghost use Rattle.pe_features.specs.declared.feature.Feature.{Feature};
-ghost use Rattle.pe_features.specs.Features.{same_feature};
 ghost use Rattle.pe_allowlist.specs.Lists.{lists_of, no_lists};
+ghost use Rattle.pe_allowlist.specs.Allowlists as spec;
+ghost use Rattle.pe_allowlist.specs.DeclaredLists.{allowlist_of, list_at};
 
-use crate::allowlist::Allowlist;
-use crate::pairs::{find_list, put_list};
+use crate::lists::DeclaredLists;
 use pe_features::Feature;
+use pe_origin::Origin;
 use std::alloc::{AllocError, Global};
 use std::marker::Model;
+
+/// The lists of a header, and the origin of its document, which `self` stands for in each of them.
+#[derive(Debug, Drop)]
+pub(crate) struct OwnLists {
+    own: Origin,
+    lists: DeclaredLists,
+}
 
 /// A declared policy, a map from features to allowlists (Permissions Policy, "declared policy").
 #[derive(Debug, Drop)]
 pub struct Declared {
-    rows: Vec<(Feature, Allowlist)>,
+    lists: Option<Box<OwnLists>>,
 }
 
 impl Model for Declared {
-    ghost use Rattle.std.specs.Prelude.{List};
+    ghost use Rattle.std.specs.Prelude.{List, option_map};
+    ghost use Rattle.std.specs.Box.{box_value};
     ghost use Rattle.pe_features.specs.declared.feature.Feature.{Feature};
     ghost use Rattle.pe_allowlist.specs.declared.allowlist.Allowlist.{Allowlist};
-    ghost use Rattle.pe_allowlist.specs.Lists.{NoFeatureTwice};
+    ghost use Rattle.pe_allowlist.specs.DeclaredLists.{directive_of, pairs_of};
 
     ghost Value = { List (Feature × Allowlist) };
 
-    ghost view = { λ d. d.rows.items };
-
-    ghost invariant = { λ d. NoFeatureTwice d.rows.items };
+    ghost view = { λ d. pairs_of (directive_of (option_map box_value d.lists)) };
 }
 
 impl Declared {
     /// The empty map. It takes no memory.
-    #[tactic(auto, unfolding(crate::specs::Lists::lists_of))]
-    pub fn empty(alloc: Global) -> Declared
+    #[tactic(auto, using(crate::proofs::DeclaredLaws::lists_of_pairs))]
+    pub fn empty() -> Declared
         ensures { (f : Feature) → lists_of result f ≡ no_lists f }
     {
-        Declared {
-            rows: Vec::new(alloc),
+        Declared { lists: None }
+    }
+
+    /// The map of these lists for a document of the own origin. `AllocError` where memory wants.
+    #[tactic(auto, using(crate::proofs::DeclaredLaws::lists_of_pairs))]
+    pub fn of(alloc: Global, own: &Origin, lists: DeclaredLists) -> Result<Declared, AllocError>
+        ensures { IfOk result (λ declared. (f : Feature)
+            → lists_of declared f ≡ option_map (allowlist_of own.now) (list_at lists f)) }
+    {
+        let own = own.copy()?;
+        let lists = Box::new(alloc, OwnLists { own, lists })?;
+        Ok(Declared { lists: Some(lists) })
+    }
+
+    /// Whether the allowlist of the feature matches the origin; None where the map lacks the feature.
+    #[tactic(auto, using(crate::proofs::DeclaredLaws::lists_of_pairs))]
+    pub fn matches(&self, feature: Feature, origin: &Origin) -> Option<bool>
+        ensures { result ≡ option_map (λ list. spec.matches list origin.now) (lists_of self.now feature) }
+    {
+        match &self.lists {
+            Some(all) => all.lists.matches(&all.own, feature, origin),
+            None => None,
         }
-    }
-
-    /// The allowlist of the feature; None where the map lacks it.
-    pub fn get(&self, feature: Feature) -> Option<&Allowlist>
-        ensures { option_copied result ≡ lists_of self.now feature }
-    {
-        find_list(&self.rows, feature)
-    }
-
-    /// Gives the feature this list, in place of an earlier one. `AllocError` where memory wants; the map
-    /// is then as before.
-    pub fn put(&mut self, feature: Feature, list: Allowlist) -> Result<(), AllocError>
-        ensures put { OnOk result ((f : Feature)
-            → lists_of self.new f ≡ (if same_feature feature f then Some list else lists_of self.old f)) }
-        ensures wanting { OnErr result (self.new ≡ self.old) }
-    {
-        put_list(&mut self.rows, feature, list)
     }
 }

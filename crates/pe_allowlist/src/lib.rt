@@ -5,6 +5,7 @@ mod allowlist;
 mod container;
 mod declared;
 mod expression;
+mod lists;
 mod matching;
 mod pairs;
 mod reading;
@@ -14,7 +15,9 @@ pub use allowlist::{Allowlist, Expression, Expressions};
 pub use container::{Container, DeclaredOrigin};
 pub use declared::Declared;
 pub use expression::read_expression;
+pub use lists::{DeclaredList, DeclaredLists, Keywords};
 pub use reading::read_allow;
+pub use words::is_whitespace;
 
 #[cfg(test)]
 mod tests;

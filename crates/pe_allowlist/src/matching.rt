@@ -68,7 +68,8 @@ fn is_one_same(one: &Option<Origin>, other: &Origin) -> bool
     }
 }
 
-fn is_any_matching(expressions: &[Expression], origin: &Origin) -> bool
+/// Whether one of the expressions matches the origin.
+pub(crate) fn is_any_matching(expressions: &[Expression], origin: &Origin) -> bool
     ensures { result ≡ list_any (λ e. expression.expression_matches e origin.now) expressions.now }
 {
     expressions.iter().any(|e| e.matches(origin))

@@ -1,7 +1,8 @@
 //! What no contract says: that there is memory, and that the definitions read the worked examples as
 //! they should.
 use crate::{
-    Allowlist, Container, Declared, DeclaredOrigin, Expressions, read_allow, read_expression,
+    Container, Declared, DeclaredList, DeclaredLists, DeclaredOrigin, Expressions, read_allow,
+    read_expression,
 };
 use pe_base::DocNo;
 use pe_features::Feature;
@@ -341,26 +342,30 @@ fn attributes_are_read(rt: HostRuntime) -> Result<(), Fail> {
 #[test]
 fn a_list_replaces_the_earlier(rt: HostRuntime) -> Result<(), Fail> {
     let own = origin(rt.alloc(), "https://a.example")?;
-    let mut declared = Declared::empty(rt.alloc());
-    assert!(rt; declared.get(Feature::Camera).is_none());
-    declared.put(Feature::Midi, Allowlist::empty(rt.alloc()))?;
-    declared.put(Feature::Camera, Allowlist::empty(rt.alloc()))?;
-    let mut list = Allowlist::empty(rt.alloc());
-    if let Some(expression) = read_expression(rt.alloc(), b"https://a.example")? {
+    let other = origin(rt.alloc(), "https://b.example")?;
+    let empty = Declared::empty();
+    assert_eq!(rt; empty.matches(Feature::Camera, &own), None);
+    let mut lists = DeclaredLists::empty(rt.alloc());
+    lists.put(Feature::Midi, DeclaredList::empty(rt.alloc()))?;
+    let mut list = DeclaredList::empty(rt.alloc());
+    list.keywords.own = true;
+    lists.put(Feature::Camera, list)?;
+    let mut list = DeclaredList::empty(rt.alloc());
+    if let Some(expression) = read_expression(rt.alloc(), b"https://b.example")? {
         list.expressions.push(expression)?;
     }
     assert_eq!(rt; list.expressions.as_slice().len(), 1);
-    declared.put(Feature::Camera, list)?;
-    assert!(rt;
-        declared
-            .get(Feature::Camera)
-            .is_some_and(|list| list.matches(&own))
-    );
-    assert!(rt;
-        declared
-            .get(Feature::Midi)
-            .is_some_and(|list| !list.matches(&own))
-    );
+    lists.put(Feature::Camera, list)?;
+    let mut list = DeclaredList::empty(rt.alloc());
+    list.keywords.own = true;
+    lists.put(Feature::Autoplay, list)?;
+    let declared = Declared::of(rt.alloc(), &own, lists)?;
+    assert_eq!(rt; declared.matches(Feature::Camera, &own), Some(false));
+    assert_eq!(rt; declared.matches(Feature::Camera, &other), Some(true));
+    assert_eq!(rt; declared.matches(Feature::Autoplay, &own), Some(true));
+    assert_eq!(rt; declared.matches(Feature::Autoplay, &other), Some(false));
+    assert_eq!(rt; declared.matches(Feature::Midi, &own), Some(false));
+    assert_eq!(rt; declared.matches(Feature::Payment, &own), None);
     assert!(rt; Expressions::of(Vec::new(rt.alloc())).as_slice().is_empty());
     Ok(())
 }

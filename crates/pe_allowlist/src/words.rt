@@ -14,7 +14,7 @@ pub(crate) fn pieces(alloc: Global, text: &[u8]) -> Result<Vec<&[u8]>, AllocErro
 }
 
 /// Whether the byte is ASCII whitespace.
-fn is_whitespace(b: u8) -> bool
+pub fn is_whitespace(b: u8) -> bool
     ensures { result ≡ spec.is_ascii_whitespace b }
 {
     match b {

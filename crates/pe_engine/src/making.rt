@@ -4,7 +4,7 @@ ghost use Rattle.std.specs.Option.{option_copied};
 ghost use Rattle.pe_base.specs.declared.limits.TheConstants.{EVENT_LIMIT};
 ghost use Rattle.pe_features.specs.declared.feature.Feature.{Feature};
 ghost use Rattle.pe_allowlist.specs.Lists.{lists_of};
-ghost use Rattle.pe_allowlist.specs.AsciiWords.{is_ascii_whitespace, lowercase};
+ghost use Rattle.pe_allowlist.specs.AsciiWords.{lowercase};
 ghost use Rattle.pe_allowlist.specs.ContainerPolicy.{container_policy};
 ghost use Rattle.pe_allowlist.specs.declared.container.DeclaredOrigin.TheVariants as declared;
 ghost use Rattle.pe_origin.specs.declared.origin.Origin.TheVariants as kind;
@@ -15,20 +15,13 @@ ghost use Rattle.pe_rules.specs.Origins.{origin_of_place, is_blank_kind, sandbox
 ghost use Rattle.pe_engine.specs.Making.{top_of, sandboxes, child_origin, kept_declared, declared_by_kept, IsLinkOf, IsContainedBy, IsTopRow, IsChildRow};
 
 use crate::row::{Attributes, Delivered, Row};
-use pe_allowlist::{Container, DeclaredOrigin, read_allow};
+use pe_allowlist::{Container, DeclaredOrigin, is_whitespace, read_allow};
 use pe_base::{Bytes, DocNo, EVENT_LIMIT, Stamp};
 use pe_header::read_header;
 use pe_origin::{Origin, Place, PlaceKind, Tuple, trustworthy};
 use pe_policy::Policy;
 use pe_store::Key;
 use std::alloc::{AllocError, Global};
-
-/// Whether the byte is ASCII whitespace.
-fn is_whitespace(b: u8) -> bool
-    ensures { result ≡ is_ascii_whitespace b }
-{
-    matches!(b, b'\t' | b'\n' | 0x0C | b'\r' | b' ')
-}
 
 /// Whether the word is `allow-same-origin`, without ASCII case.
 #[tactic(auto, using(crate::proofs::Words::keyword_test))]

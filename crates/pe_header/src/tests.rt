@@ -1,7 +1,6 @@
 //! What no contract says: that there is memory, and that the definitions read the worked examples as
 //! they should.
 use crate::read_header;
-use pe_allowlist::Declared;
 use pe_base::DocNo;
 use pe_features::Feature;
 use pe_origin::{Origin, PlaceFault, read_place};
@@ -179,12 +178,6 @@ fn origin(alloc: Global, url: &str) -> Result<Origin, PlaceFault> {
     Ok(Origin::Tuple(place.tuple.ok_or(PlaceFault::NotAUrl)?))
 }
 
-/// Whether the declared list of the feature matches the origin; None where it is not declared.
-fn admits(declared: &Declared, feature: Feature, origin: &Origin) -> Option<bool> {
-    let list = declared.get(feature)?;
-    Some(list.matches(origin))
-}
-
 #[test]
 fn headers_are_read(rt: HostRuntime) -> Result<(), Fail> {
     let own = origin(rt.alloc(), "https://a.example")?;
@@ -196,7 +189,7 @@ fn headers_are_read(rt: HostRuntime) -> Result<(), Fail> {
         let declared = read_header(rt.alloc(), field, &own)?;
         let other = origin(rt.alloc(), url)?;
         assert_eq!(rt;
-            admits(&declared, feature, &other),
+            declared.matches(feature, &other),
             expected,
             "{header:?} at {url}"
         );
@@ -216,7 +209,7 @@ fn a_large_header_is_read(rt: HostRuntime) -> Result<(), Fail> {
     field.extend_from_slice(b"camera=(self)")?;
     assert_eq!(rt; field.len(), 15_013);
     let declared = read_header(rt.alloc(), Some(field.as_slice()), &own)?;
-    assert_eq!(rt; admits(&declared, Feature::Camera, &own), Some(true));
-    assert_eq!(rt; admits(&declared, Feature::Camera, &other), Some(false));
+    assert_eq!(rt; declared.matches(Feature::Camera, &own), Some(true));
+    assert_eq!(rt; declared.matches(Feature::Camera, &other), Some(false));
     Ok(())
 }

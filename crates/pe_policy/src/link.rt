@@ -15,11 +15,12 @@ use pe_features::{DefaultList, Feature};
 use pe_origin::{Origin, same_origin};
 
 /// Whether the declared policy has the feature and does not match the origin.
+#[tactic(auto, using(crate::proofs::Refusals::refuses_some, crate::proofs::Refusals::refuses_none))]
 fn header_refuses(declared: &Declared, origin: &Origin, feature: Feature) -> bool
     ensures { result ≡ spec.refuses (lists_of declared.now feature) origin.now }
 {
-    match declared.get(feature) {
-        Some(list) => !list.matches(origin),
+    match declared.matches(feature, origin) {
+        Some(is_matched) => !is_matched,
         None => false,
     }
 }

@@ -1,7 +1,9 @@
 //! What no contract says: that the definitions name the tests that the rules name, along written chains
 //! of documents.
 use crate::{Links, Policy, first_link, own_link};
-use pe_allowlist::{Allowlist, Container, Declared, DeclaredOrigin, read_allow, read_expression};
+use pe_allowlist::{
+    Container, Declared, DeclaredList, DeclaredLists, DeclaredOrigin, read_allow, read_expression,
+};
 use pe_base::{DocNo, LinkRule};
 use pe_features::Feature;
 use pe_origin::{Origin, PlaceFault, read_place};
@@ -408,22 +410,22 @@ fn declared(
     own: &Origin,
     feature: Feature,
 ) -> Result<Declared, AllocError> {
-    let mut declared = Declared::empty(alloc);
     let Some(words) = header else {
-        return Ok(declared);
+        return Ok(Declared::empty());
     };
-    let mut list = Allowlist::empty(alloc);
+    let mut list = DeclaredList::empty(alloc);
     for word in words.split_whitespace() {
         if word == "*" {
-            list.any = true;
+            list.keywords.any = true;
         } else if word == "self" {
-            list.selves = Some(own.copy()?);
+            list.keywords.own = true;
         } else if let Some(expression) = read_expression(alloc, word.as_bytes())? {
             list.expressions.push(expression)?;
         }
     }
-    declared.put(feature, list)?;
-    Ok(declared)
+    let mut lists = DeclaredLists::empty(alloc);
+    lists.put(feature, list)?;
+    Declared::of(alloc, own, lists)
 }
 
 /// The container policy of an attribute. Its declared origin is https://b.example.
@@ -530,7 +532,7 @@ fn the_tests_of_one_pair(rt: HostRuntime) -> Result<(), Fail> {
     let header = declared(rt.alloc(), Some("self"), &a, Feature::Camera)?;
     let refused = container(rt.alloc(), Some("camera 'none'"), &a, doc)?;
     let lacking = container(rt.alloc(), None, &a, doc)?;
-    let empty = Declared::empty(rt.alloc());
+    let empty = Declared::empty();
     let own = declared(rt.alloc(), Some(""), &b, Feature::Camera)?;
     assert_eq!(rt;
         first_link(&header, &a, &refused, &b, Feature::Camera),
