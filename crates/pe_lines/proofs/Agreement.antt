@@ -4,8 +4,7 @@ use Rattle.std.specs.Prelude.{◌==◌, if◌then◌else◌, option_map, ◌↔�
 use Rattle.std.specs.List.{list_all}
 use Rattle.std.proofs.lemmas.Bool.Decides.{nat_tests}
 use Rattle.std.proofs.lemmas.Bool.{eqb-true}
-use Rattle.pe_lines.specs.declared.word.Word.{Word}
-use Rattle.pe_lines.specs.Words.{is_blank, Kind, Blank, Quote, Backslash, Other, kind_of, Stage, Between, Bare, Quoted, Escaped, Closed, Ahead, closed, longer, begun, ahead_at_byte, ahead_of, words_of}
+use Rattle.pe_lines.specs.Words.{Word, is_blank, Kind, Blank, Quote, Backslash, Other, kind_of, Stage, Between, Bare, Quoted, Escaped, Closed, Ahead, closed, longer, begun, ahead_at_byte, ahead_of, words_from, words_of}
 use Rattle.pe_lines.specs.Grammar.{is_escaped, escaped, written, is_bare, IsBareText, HasForm, ends_word, StandsFirst, AreWordsFrom, AreWords}
 use Rattle.pe_lines.proofs.Ahead.{kind_by, opened, with_word, option_map-comp, and_first, and_rest, first_bare_byte, gap_ahead, bare_ahead, quote_ahead}
 
@@ -36,9 +35,6 @@ word_ahead place line word gap rest first =
     ap (ahead_of Between place) first.parts
     ∙ gap_ahead place word.start gap (written word ++ rest) first.starts first.blank
     ∙ form_ahead word.start word.start word.text rest word.quoted word.end refl first.form first.apart first.ends
-
-words_ahead : Option Ahead → Option (List Word)
-words_ahead o = option_map (λ ahead. ahead.words) o
 
 found_from : (place : ℕ) (line : List ℕ) (words : List Word) → AreWordsFrom place line words → option_map (λ (a : Ahead). a.words) (ahead_of Between place line) ≡ Some words
 found_from place line [] blank =
@@ -257,7 +253,7 @@ right_from stage place (b ∷ line) ahead e = right_at_byte stage place b line a
 
 -- the two say the same
 pub words_agree : (line : List ℕ) (words : List Word) → (words_of line ≡ Some words) ↔ AreWords line words
-unfolding words_of IsRight
+unfolding words_of words_from IsRight
 words_agree line words = (
   λ e. let (ahead, found, same) = mapped (λ (a : Ahead). a.words) (ahead_of Between 0 line) words e in subst (AreWordsFrom 0 line) same (right_from Between 0 line ahead found),
   λ h. found_from 0 line words h,

@@ -7,12 +7,10 @@ use Rattle.std.proofs.lemmas.Bool.{eqb-true}
 use Rattle.std.proofs.lemmas.List.{get_or-take, get_or-drop, length-take, length-drop, drop-drop, drop_more, take-append-drop}
 use Rattle.std.proofs.Math.Seq.{take-append-add}
 use Rattle.std.proofs.lemmas.List.Sums.{fails_before_first, passes_at_first, prefix_len-le-length, list_all-from_AllPass}
-use Rattle.pe_lines.specs.declared.word.Word.{Word}
-use Rattle.pe_lines.specs.Words.{is_blank, Between, Bare, Quoted, Escaped, Closed, Ahead, closed, longer, begun, ahead_at_byte, ahead_of, words_of}
+use Rattle.pe_lines.specs.Words.{is_blank, Between, Bare, Quoted, Escaped, Closed, closed, longer, begun, ahead_at_byte, ahead_of}
 use Rattle.pe_lines.specs.Grammar.{is_escaped, escaped, ends_bare, is_bare, IsBareText, ends_word}
 use Rattle.pe_lines.specs.Steps.{IsWordAt, HasNoWords, char_len, begins_escape, begins_plain, begins_quote, IsEscapedFront, ClosesAfter, NeverCloses, without_escapes}
-use Rattle.pe_lines.proofs.Ahead.{kind_by, prefixed, with_word, and_first, and_rest, first_bare_byte, bare_byte, quoted_ahead}
-use Rattle.pe_lines.proofs.Agreement.{word_ahead}
+use Rattle.pe_lines.proofs.Ahead.{kind_by, prefixed, and_first, and_rest, first_bare_byte, bare_byte, quoted_ahead}
 
 -- ---- bare words
 
@@ -65,9 +63,9 @@ bare_text bytes n e some bare =
     let more = some_bare bytes n e some bare in
     record { some = omega (arith, length-take n bytes); plain = subst (λ k. list_all is_bare (take k bytes) ≡ true) (sym e) (all_bare bytes) }
 
-pub bare_is_word : (line : List ℕ) (start n : ℕ) (text : List ℕ) → start < length line → ends_bare (get_or line start 0) ≡ false → n ≡ position_or_len ends_bare (drop start line) → n ≤ length (drop start line) → ends_word (drop (start + n) line) ≡ true
-    → text ≡ take n (drop start line) → IsWordAt line start (record { text = text; quoted = false; start = start; end = start + n })
-bare_is_word line start n text within bare e short apart is =
+pub bare_is_word : (line : List ℕ) (start n : ℕ) (text : List ℕ) (from : ℕ) → start < length line → ends_bare (get_or line start 0) ≡ false → n ≡ position_or_len ends_bare (drop start line) → n ≤ length (drop start line) → ends_word (drop (start + n) line) ≡ true
+    → text ≡ take n (drop start line) → from ≡ start → IsWordAt line start (record { text = text; quoted = false; start = from; end = start + n })
+bare_is_word line start n text from within bare e short apart is same =
     let rest = drop start line in
     let left : 0 < length rest = omega (arith, length-drop start line) in
     let form = bare_text rest n e left (ap ends_bare (first_left line start) ∙ bare) in
@@ -285,10 +283,6 @@ pub nothing_undone : (bytes : List ℕ) → list_any (λ b. b == 92) bytes ≡ f
 nothing_undone [] h = refl
 nothing_undone (b ∷ bytes) h = plain_first b bytes bytes (or_first (b == 92) (list_any (λ b. b == 92) bytes) h) (nothing_undone bytes (or_rest (b == 92) (list_any (λ b. b == 92) bytes) h))
 
-pub is_none : {A : Type 0} (o : Option A) → ((a : A) → o ≡ Some a → ⊥) → o ≡ None
-is_none None h = refl
-is_none (Some a) h = absurd (h a refl)
-
 -- what stands in quotes from a place on, in parts
 quoted_parts : (line : List ℕ) (start n : ℕ) → start < length line → get_or line start 0 ≡ 34 → ClosesAfter (drop (start + 1) line) n
     → (text : List ℕ) × (take n (drop (start + 1) line) ≡ escaped text) × (drop start line ≡ 34 ∷ (escaped text ++ 34 ∷ drop (start + 1 + n + 1) line)) × (n ≡ length (escaped text))
@@ -306,9 +300,9 @@ quoted_parts line start n within quote closes =
       let len : length (take n inside) ≡ n = omega (arith, length-take n inside, closes.within) in sym len ∙ ap length front,
     )
 
-pub quoted_is_word : (line : List ℕ) (start n : ℕ) (text : List ℕ) → start < length line → get_or line start 0 ≡ 34 → ClosesAfter (drop (start + 1) line) n → ends_word (drop (start + 1 + n + 1) line) ≡ true
-    → text ≡ without_escapes (take n (drop (start + 1) line)) → IsWordAt line start (record { text = text; quoted = true; start = start; end = start + 1 + n + 1 })
-quoted_is_word line start n text within quote closes apart is =
+pub quoted_is_word : (line : List ℕ) (start n : ℕ) (text : List ℕ) (from : ℕ) → start < length line → get_or line start 0 ≡ 34 → ClosesAfter (drop (start + 1) line) n → ends_word (drop (start + 1 + n + 1) line) ≡ true
+    → text ≡ without_escapes (take n (drop (start + 1) line)) → from ≡ start → IsWordAt line start (record { text = text; quoted = true; start = from; end = start + 1 + n + 1 })
+quoted_is_word line start n text from within quote closes apart is here =
     let (inside, front, parts, len) = quoted_parts line start n within quote closes in
     let same : inside ≡ text = sym (undone inside) ∙ ap without_escapes (sym front) ∙ sym is in
     let rest = drop (start + 1 + n + 1) line in
@@ -344,23 +338,3 @@ quoted_is_none line start n within quote closes apart =
     ∙ ap (option_map (begun true start)) (
     quoted_ahead (start + 1) at inside (34 ∷ rest) refl
     ∙ ap (λ o. option_map (prefixed inside) (option_map (closed (at + 1)) o)) (closed_apart (at + 1) rest apart))
-
--- ---- the loop over words
-
--- what the words so far and what is ahead make together
-abbrev pub joined : List Word → Option Ahead → Option (List Word)
-joined words o = option_map (λ ahead. words ++ ahead.words) o
-
-pub words_init : (line : List ℕ) → joined [] (ahead_of Between 0 line) ≡ words_of line
-unfolding words_of
-words_init line = refl
-
-words_push : (place : ℕ) (words : List Word) (word : Word) (o : Option Ahead) → joined words (option_map (with_word place word) o) ≡ joined (words ++ word ∷ []) o
-words_push place words word None = refl
-words_push place words word (Some a) = ap Some (sym (append_assoc words (word ∷ []) a.words))
-
-pub words_step : (line : List ℕ) (at : ℕ) (words new : List Word) (word : Word) → IsWordAt line at word → new ≡ words ++ word ∷ [] → joined words (ahead_of Between at (drop at line)) ≡ words_of line → joined new (ahead_of Between word.end (drop word.end line)) ≡ words_of line
-words_step line at words new word is same so_far =
-    ap (λ ws. joined ws (ahead_of Between word.end (drop word.end line))) same
-    ∙ sym (words_push word.start words word (ahead_of Between word.end (drop word.end line)))
-    ∙ ap (joined words) (sym (word_ahead at (drop at line) word [] (drop word.end line) is.first)) ∙ so_far

@@ -3,8 +3,7 @@ use Rattle.std.proofs.Common.{◌≡◌, ℕ, ◌+◌, Bool, true, false, ◌||�
 use Rattle.std.specs.Prelude.{All}
 use Rattle.std.specs.List.{list_any}
 use Rattle.std.proofs.lemmas.List.Elements.{All-nil, All-cons}
-use Rattle.pe_lines.specs.declared.word.Word.{Word}
-use Rattle.pe_lines.specs.Words.{is_bad_byte, has_bad_byte, Kind, Blank, Quote, Backslash, Other, kind_of, Stage, Between, Bare, Quoted, Escaped, Closed, Ahead, closed, longer, begun, ahead_at_end, ahead_at_byte, ahead_of, words_of}
+use Rattle.pe_lines.specs.Words.{Word, is_bad_byte, has_bad_byte, Kind, Blank, Quote, Backslash, Other, kind_of, Stage, Between, Bare, Quoted, Escaped, Closed, Ahead, closed, longer, begun, ahead_at_end, ahead_at_byte, ahead_of, words_from, words_of}
 
 abbrev pub PlainWords : List Word → Type 0
 PlainWords words = All (λ (word : Word). list_any is_bad_byte word.text ≡ false) words
@@ -84,5 +83,5 @@ words-plain (Some a) words h e = let same : a.words ≡ words = cc in subst Plai
 
 -- the words of such a line
 pub plain_words : (line : List ℕ) (words : List Word) → has_bad_byte line ≡ false → words_of line ≡ Some words → All (λ (word : Word). has_bad_byte word.text ≡ false) words
-unfolding has_bad_byte words_of
+unfolding has_bad_byte words_of words_from
 plain_words line words good e = words-plain (ahead_of Between 0 line) words (plain-ahead Between 0 line good) e

@@ -3,8 +3,7 @@ use Rattle.std.proofs.Common.{◌≡◌, ℕ, zero, suc, ◌+◌, ◌<◌, ◌�
 use Rattle.std.proofs.lemmas.Bool.{ltb-true, ltb-false}
 use Rattle.std.specs.Prelude.{◌==◌, option_map}
 use Rattle.std.proofs.lemmas.List.{drop_more}
-use Rattle.pe_lines.specs.declared.word.Word.{Word}
-use Rattle.pe_lines.specs.Words.{is_blank, Stage, Between, Bare, Quoted, Ahead, longer, begun, ahead_at_byte, ahead_of, words_of, words_from}
+use Rattle.pe_lines.specs.Words.{Word, is_blank, Stage, Between, Bare, Quoted, Ahead, longer, begun, ahead_at_byte, ahead_of, words_from}
 use Rattle.pe_lines.specs.Steps.{IsWordAt, HasNoWords}
 use Rattle.pe_lines.proofs.Ahead.{kind_by, with_word, option_map-comp, between_blank}
 use Rattle.pe_lines.proofs.Agreement.{word_ahead}
@@ -15,11 +14,6 @@ unfolding words_from
 blank_passed line at within blank =
     ap (option_map (λ (a : Ahead). a.words))
     (sym (between_blank at (get_or line at 0) (drop (at + 1) line) blank) ∙ ap (ahead_of Between at) (sym (drop_more line at 0 within)))
-
--- all words are those that stand from the beginning on
-pub all_from : (line : List ℕ) → words_from 0 line ≡ words_of line
-unfolding words_from words_of
-all_from line = refl
 
 nothing_behind : (at : ℕ) (line : List ℕ) → length line ≤ at → drop at line ≡ []
 nothing_behind zero [] e = refl

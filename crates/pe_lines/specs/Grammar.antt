@@ -3,8 +3,7 @@
 -- The bytes of a word are fixed by its form and its text: in quotes each quote and each backslash of the text has a backslash in front, and nothing else has.
 use Rattle.std.specs.Prelude.{◌≡◌, ℕ, ◌+◌, ◌<◌, ◌==◌, ◌||◌, Bool, true, false, not, List, [], ◌∷◌, ◌++◌, length, if◌then◌else◌}
 use Rattle.std.specs.List.{list_all}
-use Rattle.pe_lines.specs.declared.word.Word.{Word}
-use Rattle.pe_lines.specs.Words.{is_blank}
+use Rattle.pe_lines.specs.Words.{Word, is_blank}
 
 -- the byte has a backslash in front where it stands in quotes
 abbrev pub is_escaped : ℕ → Bool

@@ -1,9 +1,8 @@
 -- What the steps of the reader of words find in a line.
 -- This project's own.
 -- These are facts of helpers; what the words of a line are is said by the grammar.
-use Rattle.std.specs.Prelude.{◌≡◌, ℕ, ◌<◌, ◌≤◌, ◌==◌, ◌&&◌, Bool, true, false, not, List, [], ◌∷◌, length, drop, take, if◌then◌else◌, Option, Some, None}
-use Rattle.pe_lines.specs.declared.word.Word.{Word}
-use Rattle.pe_lines.specs.Words.{Between, Quoted, ahead_of}
+use Rattle.std.specs.Prelude.{◌≡◌, ℕ, ◌+◌, ◌<◌, ◌≤◌, ◌==◌, ◌&&◌, Bool, true, false, not, List, [], ◌∷◌, length, drop, take, if◌then◌else◌, Option, Some, None}
+use Rattle.pe_lines.specs.Words.{Word, Between, Quoted, ahead_of}
 use Rattle.pe_lines.specs.Grammar.{is_escaped, escaped, StandsFirst}
 
 -- the word stands at this place of the line
@@ -61,3 +60,8 @@ without_escapes (b ∷ c ∷ bytes) = if b == 92 then c ∷ without_escapes byte
 abbrev pub text_of : Bool → List ℕ → List ℕ
 text_of true raw = without_escapes raw
 text_of false raw = raw
+
+-- how many bytes a word takes in the line, by how many stand in it between quotes, or without them
+abbrev pub width_of : Bool → ℕ → ℕ
+width_of true count = count + 2
+width_of false count = count

@@ -3,7 +3,13 @@
 -- A quoted word holds any bytes, `\"` for a quote and `\\` for a backslash; it may be empty, and a blank or the end stands behind it.
 use Rattle.std.specs.Prelude.{ℕ, ◌+◌, ◌==◌, ◌||◌, ◌&&◌, Bool, true, false, not, nat_le, List, [], ◌∷◌, Some, None, Option, option_map, if◌then◌else◌}
 use Rattle.std.specs.List.{list_any, list_all}
-use Rattle.pe_lines.specs.declared.word.Word.{Word}
+
+-- a word: its bytes, without quotes and with escapes undone; whether it stands in quotes; and the places of its first byte and behind its last one, counted from 0, where a quoted word's quotes count
+pub record Word : Type 0 where
+  pub text : List ℕ
+  pub quoted : Bool
+  pub start : ℕ
+  pub end : ℕ
 
 -- a space or a tab
 abbrev pub is_blank : ℕ → Bool
@@ -105,4 +111,4 @@ pub record WordsLeft : Type 0 where
 
 -- the words of a line; None where it is no list of words
 unfoldable pub words_of : List ℕ → Option (List Word)
-words_of line = option_map (λ ahead. ahead.words) (ahead_of Between 0 line)
+words_of line = words_from 0 line

@@ -1,11 +1,10 @@
 //! Laws of lines and words, for proofs of callers: each function only states what is true of the
 //! definitions, and does nothing.
 ghost use Rattle.std.specs.Prelude.{◌≡◌, ℕ, ◌↔◌, List, [], ◌∷◌, ◌++◌, Option, Some, false};
-ghost use Rattle.pe_lines.specs.declared.word.Word.{Word};
 ghost use Rattle.pe_lines.specs.Lines.{lines_or_too_long, ended_lines_or_too_long};
 ghost use Rattle.pe_lines.specs.Rests.{Rest};
 ghost use Rattle.pe_lines.specs.Cutting.{Cuts, TakesLine, TakesLast, TakesNext};
-ghost use Rattle.pe_lines.specs.Words.{words_of};
+ghost use Rattle.pe_lines.specs.Words.{Word, words_of};
 ghost use Rattle.pe_lines.specs.Grammar.{AreWords};
 
 /// The words of a line are those that the grammar makes it of.

@@ -5,13 +5,11 @@ mod cutter;
 mod laws;
 mod span;
 mod text;
-mod word;
 
 pub use cutter::{Cut, Cutter};
 pub use laws::{cuts_go_on, ended_lines_stay, words_are_by_grammar};
-pub use span::{WordReader, WordSpan};
+pub use span::{WordReader, WordSpan, has_bad_byte};
 pub use text::Text;
-pub use word::{Word, WordFault, words};
 
 #[cfg(test)]
 mod tests;

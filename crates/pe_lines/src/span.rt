@@ -2,13 +2,11 @@
 ghost use Rattle.std.specs.Prelude.{◌≡◌, ◌<◌, ◌≤◌, ◌↔◌, ◌⊎◌, ◌∷◌, [], Some, None, IfOk, IfSome, IfNone, IsTrue, MatchOption, if◌then◌else◌, length, drop, slice_index, true, false, All, ℕ, List, option_map};
 ghost use Rattle.std.specs.List.{position, position_or_len};
 ghost use Rattle.std.specs.Option.{option_copied};
-ghost use Rattle.pe_lines.specs.declared.word.Word.{Word};
-ghost use Rattle.pe_lines.specs.Words.{is_blank, is_bad_byte, has_bad_byte, words_of, words_from};
+ghost use Rattle.pe_lines.specs.Words.{Word, is_blank, is_bad_byte, has_bad_byte, words_of, words_from};
 ghost use Rattle.pe_lines.specs.Grammar.{ends_bare, ends_word, is_escaped};
 ghost use Rattle.pe_lines.specs.Steps.{IsWordAt, HasNoWords, begins_escape, begins_quote, ClosesAfter, NeverCloses, without_escapes};
 
 use crate::text::Text;
-use crate::word::Word;
 use std::alloc::{AllocError, Global};
 use std::marker::Model;
 
@@ -19,19 +17,18 @@ pub struct WordSpan<'a> {
     raw: &'a [u8],
     /// Whether it stands in quotes.
     quoted: bool,
-    /// The place of its first byte in the line.
-    start: usize,
     /// The place after its last byte.
     end: usize,
 }
 
 impl<'a> Model for WordSpan<'a> {
-    ghost use Rattle.pe_lines.specs.declared.word.Word.{Word};
-    ghost use Rattle.pe_lines.specs.Steps.{text_of};
+    ghost use Rattle.std.specs.Prelude.{◌-◌, length};
+    ghost use Rattle.pe_lines.specs.Words.{Word};
+    ghost use Rattle.pe_lines.specs.Steps.{text_of, width_of};
 
     ghost Value = { Word };
 
-    ghost view = { λ s. record { text = text_of s.quoted s.raw.now; quoted = s.quoted; start = s.start; end = s.end } };
+    ghost view = { λ s. record { text = text_of s.quoted s.raw.now; quoted = s.quoted; start = s.end - width_of s.quoted (length s.raw.now); end = s.end } };
 }
 
 impl<'a> WordSpan<'a> {
@@ -61,23 +58,13 @@ impl<'a> WordSpan<'a> {
     {
         self.end
     }
-
-    /// The word itself.
-    pub fn word(&self, alloc: Global) -> Result<Word<'a>, AllocError>
-        ensures { IfOk result (λ word. word ≡ self.now) }
-    {
-        let text = self.text(alloc)?;
-        Ok(Word {
-            text,
-            quoted: self.quoted,
-            start: self.start,
-            end: self.end,
-        })
-    }
 }
 
 /// The words of a line that are still to be read. Contracts see them, or that what is left is no list of
 /// words, and how many bytes are left.
+///
+/// A bare word is a run of bytes other than blanks and `"`. A quoted word is `"`, then any bytes in
+/// which `\"` stands for `"` and `\\` for `\`, then `"`. Behind a word stands a blank or the end.
 #[derive(Drop)]
 pub struct WordReader<'a> {
     line: &'a [u8],
@@ -97,7 +84,7 @@ impl<'a> Model for WordReader<'a> {
 
 impl<'a> WordReader<'a> {
     /// Reads a line without a bad byte; None where the line has one.
-    #[tactic(auto, using(crate::proofs::PlainTexts::plain_words))]
+    #[tactic(auto, using(crate::proofs::PlainTexts::plain_words), unfolding(crate::specs::Words::words_of))]
     pub fn of(line: &'a [u8]) -> Option<WordReader<'a>>
         ensures words { IfSome result (λ reader. reader.words ≡ words_of line.now) }
         ensures plain { IfSome result (λ reader. (words : List Word) → words_of line.now ≡ Some words → All (λ word. has_bad_byte word.text ≡ false) words) }
@@ -223,7 +210,6 @@ fn bare_span<'a>(line: &'a [u8], start: usize) -> Option<WordSpan<'a>>
     Some(WordSpan {
         raw: &line[start..end],
         quoted: false,
-        start,
         end,
     })
 }
@@ -334,7 +320,6 @@ fn quoted_span<'a>(line: &'a [u8], start: usize) -> Option<WordSpan<'a>>
     Some(WordSpan {
         raw: &line[start + 1..close],
         quoted: true,
-        start,
         end: close + 1,
     })
 }

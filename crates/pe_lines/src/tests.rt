@@ -1,7 +1,7 @@
 //! What no contract says: that there is memory, and that the definitions give the rows that were meant.
 ghost use Rattle.std.specs.Prelude.{◌≡◌};
 
-use crate::{Cut, Cutter, WordFault, words};
+use crate::{Cut, Cutter, WordReader};
 use std::alloc::{AllocError, Global};
 use std::process::Abort;
 use std::test::Fail;
@@ -85,41 +85,52 @@ fn lines_come_alike_in_any_pieces(rt: HostRuntime) -> Result<(), Fail> {
     Ok(())
 }
 
-/// The words of a line, each as `START-END TEXT|`, with `q` in front of a quoted one.
-fn shown(alloc: Global, line: &[u8]) -> Result<Vec<u8>, Fail> {
+/// The words of a line up to its first fault: each text with `|` behind it, `q` in front of a quoted
+/// one, and `!` in the fault's place. None where the line has a bad byte.
+fn shown(alloc: Global, line: &[u8]) -> Result<Option<Vec<u8>>, AllocError> {
+    let Some(mut reader) = WordReader::of(line) else {
+        return Ok(None);
+    };
     let mut out = Vec::new(alloc);
-    for word in words(alloc, line)?.iter() {
-        let place = format!(in alloc; "{}-{} ", word.start, word.end)?;
-        if word.quoted {
+    while let Some(word) = reader.next() {
+        if word.bare().is_none() {
             out.push(b'q')?;
         }
-        out.extend_from_slice(place.as_bytes())?;
-        out.extend_from_slice(word.text.as_slice())?;
+        let text = word.text(alloc)?;
+        out.extend_from_slice(text.as_slice())?;
         out.push(b'|')?;
     }
-    Ok(out)
+    if !reader.is_done() {
+        out.push(b'!')?;
+    }
+    Ok(Some(out))
 }
 
 #[test]
-fn words_have_their_places(rt: HostRuntime) -> Result<(), Fail> {
-    let rows: [(&[u8], &[u8]); 7] = [
+fn words_come_up_to_the_first_fault(rt: HostRuntime) -> Result<(), Fail> {
+    let rows: [(&[u8], &[u8]); 15] = [
         (b"", b""),
         (b" \t ", b""),
-        (b"0 tick", b"0-1 0|2-6 tick|"),
-        (
-            b"\t10  policy f1 camera ",
-            b"1-3 10|5-11 policy|12-14 f1|15-21 camera|",
-        ),
-        (b"\"\" \"a b\"", b"q0-2 |q3-8 a b|"),
+        (b"0 tick", b"0|tick|"),
+        (b"\t10  policy f1 camera ", b"10|policy|f1|camera|"),
+        (b"\"\" \"a b\"", b"q|qa b|"),
         (
             b"x\\y \"(self \\\"https://p.example\\\")\"",
-            b"0-3 x\\y|q4-34 (self \"https://p.example\")|",
+            b"x\\y|q(self \"https://p.example\")|",
         ),
-        (b"\"\\\\\\\"\"\t#", b"q0-6 \\\"|7-8 #|"),
+        (b"\"\\\\\\\"\"\t#", b"q\\\"|#|"),
+        (b"# a comment", b"#|a|comment|"),
+        (b"\"open", b"!"),
+        (b"\"a\\\"", b"!"),
+        (b"\"a\\n\"", b"!"),
+        (b"a\"b\"", b"!"),
+        (b"0 \"a\"b c", b"0|!"),
+        (b"0 \"a\"\"b\"", b"0|!"),
+        (b"0 tick \"", b"0|tick|!"),
     ];
     for (line, want) in rows {
         let found = shown(rt.alloc(), line)?;
-        assert_eq!(rt; found.as_slice(), want);
+        assert_eq!(rt; found.as_deref(), Some(want));
     }
     Ok(())
 }
@@ -128,31 +139,21 @@ fn words_have_their_places(rt: HostRuntime) -> Result<(), Fail> {
 #[test]
 fn words_of_the_longest_line(rt: HostRuntime) -> Result<(), Fail> {
     let mut line = Vec::new(rt.alloc());
+    let mut want = Vec::new(rt.alloc());
     for _ in 0..8_192 {
         line.extend_from_slice(b"x ")?;
+        want.extend_from_slice(b"x|")?;
     }
     assert_eq!(rt; line.len(), 16_384);
     let found = shown(rt.alloc(), line.as_slice())?;
-    assert_eq!(rt; found.iter().filter(|b| **b == b'|').count(), 8_192);
-    assert!(rt; found.as_slice().ends_with(b"|16380-16381 x|16382-16383 x|"));
+    assert!(rt; found == Some(want));
     Ok(())
 }
 
 #[test]
-fn lines_without_words_have_their_faults(rt: HostRuntime) {
-    let rows: [(&[u8], WordFault); 10] = [
-        (b"# a comment \x7f", WordFault::BadByte),
-        (b"\"open\x01", WordFault::BadByte),
-        (b"tick\r", WordFault::BadByte),
-        (b"\x80", WordFault::BadByte),
-        (b"\"open", WordFault::Syntax),
-        (b"\"a\\\"", WordFault::Syntax),
-        (b"\"a\\n\"", WordFault::Syntax),
-        (b"a\"b\"", WordFault::Syntax),
-        (b"\"a\"b", WordFault::Syntax),
-        (b"\"a\"\"b\"", WordFault::Syntax),
-    ];
-    for (line, want) in rows {
-        assert_eq!(rt; words(rt.alloc(), line).err(), Some(want));
+fn bad_bytes_are_refused(rt: HostRuntime) {
+    let rows: [&[u8]; 4] = [b"# a comment \x7f", b"\"open\x01", b"tick\r", b"\x80"];
+    for line in rows {
+        assert!(rt; WordReader::of(line).is_none());
     }
 }

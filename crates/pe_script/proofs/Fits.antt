@@ -6,8 +6,7 @@ use Rattle.std.proofs.lemmas.Bool.Decides.{nat_tests}
 use Rattle.std.proofs.lemmas.List.Elements.{All-head, All-tail}
 use Rattle.std.proofs.lemmas.List.Folds.{list_any-append}
 use Rattle.pe_base.specs.declared.limits.TheConstants.{TIME_LIMIT}
-use Rattle.pe_lines.specs.declared.word.Word.{Word}
-use Rattle.pe_lines.specs.Words.{is_bad_byte, has_bad_byte}
+use Rattle.pe_lines.specs.Words.{Word, is_bad_byte, has_bad_byte}
 use Rattle.pe_events.specs.declared.event.Event.{Event}
 use Rattle.pe_events.specs.declared.event.Event.TheVariants as event
 use Rattle.pe_events.specs.declared.event.EventLife.{EventLife}
@@ -44,9 +43,6 @@ ArePlain (word ∷ words) = IsPlain word × ArePlain words
 are-plain : (words : List Word) → All IsPlain words → ArePlain words
 are-plain [] h = tt
 are-plain (word ∷ words) h = (All-head IsPlain word words h, are-plain words (All-tail IsPlain word words h))
-
-text-fits : (text : List ℕ) → has_bad_byte text ≡ false → is_text text ≡ true
-text-fits text h = ap not h
 
 bare-fits : (word : Word) (text : List ℕ) → IsPlain word → bare word ≡ Some text → is_text text ≡ true
 bare-fits word text h e = by_quotes word.quoted e

@@ -3,8 +3,7 @@ use Rattle.std.proofs.Common.{◌≡◌, ℕ, suc, ◌+◌, ◌<◌, ◌≤◌, 
 use Rattle.std.specs.Prelude.{All, option_and_then, ◌⊎◌, IfOk, IfNone, IfSome, IsErrOf, IsOkAnd, IsSomeAnd}
 use Rattle.std.proofs.Math.Seq.{drop-cons}
 use Rattle.std.proofs.lemmas.List.{drop_all}
-use Rattle.pe_lines.specs.declared.word.Word.{Word}
-use Rattle.pe_lines.specs.Words.{is_blank, is_blank_line, is_comment, has_bad_byte, words_of}
+use Rattle.pe_lines.specs.Words.{Word, is_blank, is_blank_line, is_comment, has_bad_byte, words_of}
 use Rattle.pe_events.specs.declared.cause.Cause.TheVariants as cause
 use Rattle.pe_events.specs.declared.event.Event.{Event}
 use Rattle.pe_events.specs.declared.stamped.Stamped.{Stamped}

@@ -2,7 +2,7 @@
 use Rattle.std.proofs.Common.{◌≡◌, ℕ, Bool, true, false, not, List, [], ◌∷◌, Option, Some, None, is_some, unwrap_or, option_map, refl, sym, ◌∙◌, ap, codes, bytes_eq, if◌then◌else◌, fold, Result, Ok, Err, inl, inr}
 use Rattle.std.specs.Prelude.{IfOk, option_and_then, ◌⊎◌}
 use Rattle.std.proofs.lemmas.Slice.Eq.{bytes_eq-Decides}
-use Rattle.pe_lines.specs.declared.word.Word.{Word}
+use Rattle.pe_lines.specs.Words.{Word}
 use Rattle.pe_script.specs.Numerals.{bare}
 use Rattle.pe_script.specs.Names.{is_keyword, keyword_in}
 use Rattle.pe_script.specs.Verbs.{OptionName, Options, no_options, option_names, with_name, with_word, options, only_header, headers}
@@ -162,11 +162,6 @@ options-faulty given before all so_far (inr empty) more = absurd (more empty)
 
 pub options-all : (given : Options) (before : Option (List Word)) (all : Option Options) → given.waiting ≡ None → options_left (Some given) before ≡ all → before ≡ Some [] → Some given ≡ all
 options-all given before all none so_far empty = sym (options-end given none) ∙ ap (options_left (Some given)) (sym empty) ∙ so_far
-
-pub options-more : (given new : Options) (word : Word) (words before left : Option (List Word)) (taken : Bool) (all : Option Options) → options_left (Some given) before ≡ all → before ≡ behind word words
-    → options_left (Some given) (behind word words) ≡ options_left (if_taken taken new) left → taken ≡ true → options_left (Some new) left ≡ all
-options-more given new word words before left taken all so_far next step accepted =
-    ap (λ (t : Bool). options_left (if_taken t new) left) (sym accepted) ∙ sym step ∙ ap (options_left (Some given)) (sym next) ∙ so_far
 
 -- the header of the options that are left
 pub headers_left : (words : Option (List Word)) → option_and_then only_header (option_and_then options words) ≡ option_and_then headers words

@@ -2,7 +2,7 @@
 use Rattle.std.proofs.Common.{◌≡◌, ℕ, true, false, List, [], ◌∷◌, Option, Some, None, option_map, option_and_then, refl, sym, ap, ◌∙◌, codes, if◌then◌else◌, inl, inr, Bool}
 use Rattle.std.specs.Prelude.{◌⊎◌}
 use Rattle.pe_base.specs.declared.input.InputKind.{InputKind}
-use Rattle.pe_lines.specs.declared.word.Word.{Word}
+use Rattle.pe_lines.specs.Words.{Word}
 use Rattle.pe_events.specs.declared.event.AttrName.{AttrName}
 use Rattle.pe_events.specs.declared.event.Event.{Event}
 use Rattle.pe_events.specs.declared.event.Event.TheVariants as event

@@ -1,7 +1,7 @@
 -- What the words behind a verb say, by the words that the code takes.
 use Rattle.std.proofs.Common.{◌≡◌, ℕ, Bool, true, false, List, [], ◌∷◌, Option, Some, None, option_map, option_and_then, refl, sym, ◌∙◌, ap, codes, if◌then◌else◌, Result, Ok, Err, IsErrAnd, subst}
 use Rattle.pe_base.specs.declared.state.State.{State}
-use Rattle.pe_lines.specs.declared.word.Word.{Word}
+use Rattle.pe_lines.specs.Words.{Word}
 use Rattle.pe_events.specs.declared.event.Event.{Event}
 use Rattle.pe_events.specs.declared.event.EventLife.{EventLife}
 use Rattle.pe_events.specs.declared.event.Outcome.{Outcome}

@@ -2,8 +2,7 @@
 -- This project's own.
 -- Want of memory is the one answer that says nothing of the line.
 use Rattle.std.specs.Prelude.{◌≡◌, Bool, ◌||◌, List, ℕ, Option, Some, None, option_map, option_and_then, Result, Ok, Err}
-use Rattle.pe_lines.specs.declared.word.Word.{Word}
-use Rattle.pe_lines.specs.Words.{is_blank_line, is_comment}
+use Rattle.pe_lines.specs.Words.{Word, is_blank_line, is_comment}
 use Rattle.pe_events.specs.declared.cause.Cause.TheVariants as cause
 use Rattle.pe_events.specs.declared.event.Event.{Event}
 use Rattle.pe_events.specs.declared.stamped.Stamped.{Stamped}

@@ -6,7 +6,7 @@ use Rattle.pe_base.specs.declared.input.InputKind.{InputKind}
 use Rattle.pe_base.specs.declared.input.InputKind.TheVariants as kind
 use Rattle.pe_base.specs.declared.state.State.{State}
 use Rattle.pe_base.specs.declared.state.State.TheVariants as state
-use Rattle.pe_lines.specs.declared.word.Word.{Word}
+use Rattle.pe_lines.specs.Words.{Word}
 use Rattle.pe_events.specs.declared.event.AttrName.{AttrName}
 use Rattle.pe_events.specs.declared.event.AttrName.TheVariants as attribute
 use Rattle.pe_script.specs.Numerals.{bare}

@@ -3,7 +3,7 @@
 -- A number is decimal, without a leading zero.
 use Rattle.std.specs.Prelude.{ℕ, ◌+◌, ◌-◌, ◌*◌, Bool, false, not, ◌&&◌, ◌==◌, nat_le, List, [], ◌∷◌, length, fold, Option, Some, None, option_and_then, if◌then◌else◌}
 use Rattle.std.specs.List.{list_all}
-use Rattle.pe_lines.specs.declared.word.Word.{Word}
+use Rattle.pe_lines.specs.Words.{Word}
 
 -- the text of a bare word
 abbrev pub bare : Word → Option (List ℕ)

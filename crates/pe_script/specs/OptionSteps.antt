@@ -2,7 +2,7 @@
 -- This project's own.
 -- What options the words give is said by `options`; these are facts of its reader.
 use Rattle.std.specs.Prelude.{ℕ, Bool, true, false, List, Option, Some, None, is_some, option_and_then, fold, if◌then◌else◌}
-use Rattle.pe_lines.specs.declared.word.Word.{Word}
+use Rattle.pe_lines.specs.Words.{Word}
 use Rattle.pe_script.specs.Verbs.{OptionName, At, Allow, Sandbox, Header, Options, with_word, with_text}
 use Rattle.pe_script.specs.declared.options.OptionName.{OptionName as Name}
 use Rattle.pe_script.specs.declared.options.OptionName.TheVariants as name

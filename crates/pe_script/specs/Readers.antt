@@ -2,7 +2,7 @@
 -- The script is this project's own format.
 -- The verbs are those of the code, the readers those of the table of verbs.
 use Rattle.std.specs.Prelude.{List, Option}
-use Rattle.pe_lines.specs.declared.word.Word.{Word}
+use Rattle.pe_lines.specs.Words.{Word}
 use Rattle.pe_events.specs.declared.event.Event.{Event}
 use Rattle.pe_events.specs.declared.event.Event.TheVariants as event
 use Rattle.pe_script.specs.declared.names.Verb.{Verb}

@@ -2,8 +2,7 @@
 -- The script is this project's own format.
 -- Of a line that is not too long: it may have a bad byte, or not be in the grammar.
 use Rattle.std.specs.Prelude.{ℕ, ◌||◌, List, [], ◌∷◌, Option, None, option_map, option_and_then, unwrap_or, if◌then◌else◌}
-use Rattle.pe_lines.specs.declared.word.Word.{Word}
-use Rattle.pe_lines.specs.Words.{has_bad_byte, is_blank_line, is_comment, words_of}
+use Rattle.pe_lines.specs.Words.{Word, has_bad_byte, is_blank_line, is_comment, words_of}
 use Rattle.pe_events.specs.declared.cause.Cause.{Cause}
 use Rattle.pe_events.specs.declared.cause.Cause.TheVariants as cause
 use Rattle.pe_events.specs.Timed.{Timed}

@@ -4,7 +4,7 @@
 use Rattle.std.specs.Prelude.{ℕ, List, [], ◌∷◌, codes, Option, Some, None, option_map, option_and_then, if◌then◌else◌}
 use Rattle.pe_script.specs.Numerals.{bare, span_of}
 use Rattle.pe_script.specs.Names.{is_keyword}
-use Rattle.pe_lines.specs.declared.word.Word.{Word}
+use Rattle.pe_lines.specs.Words.{Word}
 use Rattle.pe_script.specs.declared.verbs.permissions.SettingWords.{SettingWords}
 
 -- the one word

@@ -2,7 +2,7 @@
 -- The script is this project's own format.
 -- Texts are as in the line, with escapes undone; a text may be bare or quoted, all other words are bare.
 use Rattle.std.specs.Prelude.{ℕ, Bool, true, false, not, ◌&&◌, ◌||◌, List, [], ◌∷◌, ◌++◌, codes, fold, Option, Some, None, is_some, is_none, option_map, option_and_then, if◌then◌else◌}
-use Rattle.pe_lines.specs.declared.word.Word.{Word}
+use Rattle.pe_lines.specs.Words.{Word}
 use Rattle.pe_events.specs.declared.event.Event.{Event}
 use Rattle.pe_events.specs.declared.event.Event.TheVariants as event
 use Rattle.pe_events.specs.declared.event.EventLife.{EventLife}

@@ -1,6 +1,6 @@
 //! Verbs on statuses, prompts and the permission store.
 ghost use Rattle.std.specs.Prelude.{◌≡◌, ◌∷◌, [], IfOk, option_and_then, option_map};
-ghost use Rattle.pe_lines.specs.declared.word.Word.{Word};
+ghost use Rattle.pe_lines.specs.Words.{Word};
 ghost use Rattle.pe_script.specs.Answering.{Gives};
 ghost use Rattle.pe_script.specs.Verbs.{read_drop, read_life, read_outcome, read_answer, read_setting, read_set};
 ghost use Rattle.pe_script.specs.Taking.{span_for, setting_words, span_given};

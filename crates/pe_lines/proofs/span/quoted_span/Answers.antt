@@ -1,5 +1,5 @@
-use Rattle.std.proofs.Common.{◌≡◌, ◌+◌, ◌-◌, drop, take, sym, ◌∙◌, ap, true, false, arith}
-use Rattle.std.proofs.lemmas.List.{take_rest}
+use Rattle.std.proofs.Common.{◌≡◌, ◌+◌, ◌-◌, drop, take, length, sym, ◌∙◌, ap, true, false, arith}
+use Rattle.std.proofs.lemmas.List.{take_rest, length-take}
 use Rattle.pe_lines.specs.Grammar.{ends_word}
 use Rattle.pe_lines.specs.Steps.{ClosesAfter, without_escapes}
 use Rattle.pe_lines.proofs.Found.{quoted_is_word, quoted_is_none}
@@ -21,5 +21,6 @@ returns-clause-word c =
     let n = c.in_ok-len.len in
     let closes : ClosesAfter (drop (start + 1) line) n = rw take_rest at c.in_ok-len.ensures.closes in
     let apart : ends_word (drop (start + 1 + n + 1) line) ≡ true = rw take_rest at (sym c.ends_word.ensures ∙ c.if-not-ends_word.false) in
-    let text : without_escapes (take (start + 1 + n - (start + 1)) (drop (start + 1) line)) ≡ without_escapes (take n (drop (start + 1) line)) = ap (λ k. without_escapes (take k (drop (start + 1) line))) (omega arith) in
-    quoted_is_word line start n _ c.requires.within c.requires.quote closes apart text
+    let inside : take (start + 1 + n - (start + 1)) (drop (start + 1) line) ≡ take n (drop (start + 1) line) = ap (λ k. take k (drop (start + 1) line)) (omega arith) in
+    let from : start + 1 + n + 1 - (length (take (start + 1 + n - (start + 1)) (drop (start + 1) line)) + 2) ≡ start = omega (arith, closes.within, length-take n (drop (start + 1) line), ap length inside) in
+    quoted_is_word line start n _ _ c.requires.within c.requires.quote closes apart (ap without_escapes inside) from
