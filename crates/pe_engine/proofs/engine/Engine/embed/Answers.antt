@@ -6,6 +6,7 @@ use Rattle.pe_engine.specs.Making.{IsChildRow}
 use Rattle.pe_engine.specs.declared.verbs.open.Embedding.{Embedding}
 use Rattle.pe_engine.specs.Replying.{timed}
 use Rattle.pe_engine.specs.Rows.{kept_attributes}
+use Rattle.pe_engine.proofs.Answering.{answer-memory}
 use Rattle.pe_engine.proofs.CommonCauses.{some-of}
 use Rattle.pe_engine.proofs.Embedded.{accept-embed}
 use Rattle.pe_engine.proofs.VerbAnswers.{checked-refused, doc-of}
@@ -15,6 +16,9 @@ pub returns-in-Err : goal.returns-in-Err
 returns-in-Err g c = λ H s.
     checked-refused Embedding c.args.self.now H (timed c.args.now (event.Embed c.args.parent c.args.src.now c.args.place.now c.args.allow.now c.args.sandbox.now c.args.fullscreen c.args.srcdoc c.args.header.now)) c.in-Err.refusal
     (c.in-Err.ensures.cause H c.args.allow.now c.args.sandbox.now c.args.header.now c.args.fullscreen c.args.srcdoc s)
+
+pub returns-in_err-origin : goal.returns-in_err-origin
+returns-in_err-origin g c = λ H s. answer-memory _ _ H _ c.from_residual-in_err-origin.result c.from_residual-in_err-origin.ensures.1
 
 pub returns : goal.returns
 returns g c = λ H s.

@@ -69,7 +69,7 @@ returns g c = λ H s.
     ∙ ap (λ (w : Forest Row). navigated h (record x { attributes = c.take_attributes.result }) w.entries) taken.1
     ∙ navigated-anyway h (record x { attributes = c.take_attributes.result }) bare e.frames.entries
     ∙ ap (λ (a : Attributes). navigated h (record x { attributes = a }) e.frames.entries) taken.0 in
-    let shown = c.row.ensures.shown H f s c.in_ok-number.ensures.handle in
+    let shown = c.row-2.ensures.shown H f s c.in_ok-number.ensures.handle in
     let (says, tree) = navigation laws.history e H c.args.now c.in_ok-number.number f c.args.url.now c.args.header.now h y x N s c.in_ok-number.ensures.number c.in_ok-number.ensures.handle found c.in_ok-row.ensures.new
     (λ item. subst (λ o. IsSettled (record { time = c.args.now; event = event.Navigate f c.args.url.now o; item = item } ∷ T) x) c.bytes_of.ensures (c.in_ok-row.ensures.settled H c.args.now f c.args.url.now item s c.in_ok-number.ensures.handle named c.in_ok-number.ensures.number))
     entries (c.in-Ok-navigate.ensures.marks ∙ ap (λ (w : Forest Row). w.marks) taken.1) in
@@ -78,7 +78,7 @@ returns g c = λ H s.
     let same = same-document T e.made f h y bare e.frames.entries s.steps.tree.apart c.in_ok-number.ensures.handle (ap (λ n. document_in T n) (sym of-frame.0) ∙ of-frame.1.document) refl s.steps.tree.nodes in
     let written = ap (λ (w : Forest Row). w.entries) taken.1 in
     let gone_is = ap numbers_of (c.deref.ensures.value ∙ c.in-Ok-navigate.ensures.documents ∙ ap (λ (w : Forest Row). docs_under w.entries h) taken.1) in
-    rw (c.of.ensures, c.in_ok-origin.ensures) (ended-reply laws e p _ c.leave.new.self c.note.new.self H v f c.row.result.now.doc made.Doc N c.deref.result.now _ c.in_ok-before.before c.in_ok-after.after s (c.in_ok-before.ensures.passed H s c.in_ok-number.ensures.late) has
+    rw (c.of.ensures, c.in_ok-origin.ensures) (ended-reply laws e p _ c.leave.new.self c.note.new.self H v f c.row-2.result.now.doc made.Doc N c.deref.result.now _ c.in_ok-before.before c.in_ok-after.after s (c.in_ok-before.ensures.passed H s c.in_ok-number.ensures.late) has
     (record { ended = λ fs. refl; makes = λ i. refl; drops = λ i. refl; idle = refl; requests = λ i. refl; settles = λ i. refl }) (c.in_ok-number.ensures.rest H _ s refl ∙ other-nav T c.args.now f c.args.url.now c.args.header.now c.in-Ok.place named) says shown.document
     (λ item is. rw (has.noted.made, has.frames_are) (tree item))
     (λ item. gone-under laws.history (step_of v item) T e.made f h e.frames.entries (map (with_document h bare) e.frames.entries) c.deref.result.now s.steps.tree.apart c.in_ok-number.ensures.handle (λ fs. refl)
