@@ -81,7 +81,8 @@ fn consume_page<D: Activatable, L: Ledger>(
     Ok(())
 }
 
-// Consumes so in each document at and below the frame.
+// Consumes so in each document at and below the frame. What follows a frame is looked up before the frame is
+// written, so that its row is found once.
 fn consume_under<D: Activatable, L: Ledger>(
     frames: &mut Frames<D>,
     root: Handle,
@@ -97,11 +98,11 @@ fn consume_under<D: Activatable, L: Ledger>(
     frames.is_a_tree();
     frames.is_visited_in_tree_order();
     frames.is_changed_in_tree_order();
-    let mut at = root;
-    consume_at(frames, at, what, steps);
-    while let Some(next) = frames.preorder_following(root, at) {
+    let mut following = frames.preorder_following(root, root);
+    consume_at(frames, root, what, steps);
+    while let Some(next) = following {
+        following = frames.preorder_following(root, next);
         consume_at(frames, next, what, steps);
-        at = next;
     }
 }
 

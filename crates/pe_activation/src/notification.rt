@@ -70,7 +70,8 @@ fn activate_upward<D: Activatable, L: Ledger>(
 }
 
 // Activates the documents below the frame that are same origin with its own, which was activated before,
-// and answers how many.
+// and answers how many. What follows a frame is looked up before the frame is written, so that its row is
+// found once.
 fn activate_below<D: Activatable, L: Ledger>(
     frames: &mut Frames<D>,
     root: Handle,
@@ -91,10 +92,10 @@ fn activate_below<D: Activatable, L: Ledger>(
     frames.is_visited_in_tree_order();
     frames.is_changed_in_tree_order();
     let mut count = 0u32;
-    let mut at = root;
-    while let Some(next) = frames.preorder_following(root, at) {
+    let mut following = frames.preorder_following(root, root);
+    while let Some(next) = following {
+        following = frames.preorder_following(root, next);
         count += activate_where_same(frames, root, next, now, steps);
-        at = next;
     }
     count
 }

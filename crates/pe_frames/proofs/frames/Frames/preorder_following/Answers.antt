@@ -8,27 +8,30 @@ pub past-requires : goal.past-requires
 past-requires g c =
     let es = c.args.self.now.entries in
     let tree = tree-seen c.self.inside.rows c.self.inside.order.items c.self.inside.pages c.self.invariant.forest c.args.self.now c.self.view_is in
-    within-of es c.args.root c.args.at (handles-live es tree c.args.root c.args.at c.requires.under)
+    record {
+      under = within-of es c.args.root c.args.at (handles-live es tree c.args.root c.args.at c.requires.under);
+      here = sym c.standing.ensures.value ∙ c.in_ok-here.was;
+    }
 
-pub returns-in_err-first : goal.returns-in_err-first
-returns-in_err-first g c =
+pub returns-in_err-here : goal.returns-in_err-here
+returns-in_err-here g c =
     let es = c.args.self.now.entries in
     let tree = tree-seen c.self.inside.rows c.self.inside.order.items c.self.inside.pages c.self.invariant.forest c.args.self.now c.self.view_is in
     let within = within-of es c.args.root c.args.at (handles-live es tree c.args.root c.args.at c.requires.under) in
-    absurd (within-dead es c.args.root c.args.at within (no-entry es c.args.at c.standing.result c.in_err-first.was c.standing.ensures.value))
+    absurd (within-dead es c.args.root c.args.at within (no-entry es c.args.at c.standing.result c.in_err-here.was c.standing.ensures.value))
 
 pub returns-then-is_some : goal.returns-then-is_some
 returns-then-is_some g c =
     let es = c.args.self.now.entries in
     let tree = tree-seen c.self.inside.rows c.self.inside.order.items c.self.inside.pages c.self.invariant.forest c.args.self.now c.self.view_is in
     let within = within-of es c.args.root c.args.at (handles-live es tree c.args.root c.args.at c.requires.under) in
-    let at = stands-at es c.args.at c.standing.result c.in_ok-first.field-0 c.in_ok-first.was c.standing.ensures.value in
-    record { value = follows-first es tree c.args.root c.args.at c.in_ok-first.field-0 within at (sym c.is_some.ensures ∙ c.if-is_some.true) }
+    let at = stands-at es c.args.at c.standing.result c.in_ok-here.here c.in_ok-here.was c.standing.ensures.value in
+    record { value = follows-first es tree c.args.root c.args.at c.in_ok-here.here within at (sym c.is_some.ensures ∙ c.if-is_some.true) }
 
 pub returns : goal.returns
 returns g c =
     let es = c.args.self.now.entries in
     let tree = tree-seen c.self.inside.rows c.self.inside.order.items c.self.inside.pages c.self.invariant.forest c.args.self.now c.self.view_is in
     let within = within-of es c.args.root c.args.at (handles-live es tree c.args.root c.args.at c.requires.under) in
-    let at = stands-at es c.args.at c.standing.result c.in_ok-first.field-0 c.in_ok-first.was c.standing.ensures.value in
-    record { value = follows-past es tree c.args.root c.args.at c.in_ok-first.field-0 within at (sym c.is_some.ensures ∙ c.if-is_some.false) c.past.result c.past.ensures }
+    let at = stands-at es c.args.at c.standing.result c.in_ok-here.here c.in_ok-here.was c.standing.ensures.value in
+    record { value = follows-past es tree c.args.root c.args.at c.in_ok-here.here within at (sym c.is_some.ensures ∙ c.if-is_some.false) c.past.result c.past.ensures }
