@@ -1,4 +1,5 @@
 pub mod Items
+pub mod Noted
 pub mod Requests
 pub mod Pending
 pub mod Kept

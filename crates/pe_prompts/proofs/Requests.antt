@@ -1,9 +1,13 @@
 -- Requests, their places, and what is taken out.
-use Rattle.std.proofs.Common.{◌≡◌, ◌⊎◌, ℕ, zero, suc, ◌+◌, ◌<◌, ◌≤◌, slice_set, get_or, take, true, false, cond, not, List, [], ◌∷◌, ◌++◌, length, Option, None, Some, slice_get, refl, sym, ap, subst, ◌∙◌, true≢false, inl, inr, arith}
+use Rattle.std.proofs.Common.{◌≡◌, ◌⊎◌, ℕ, zero, suc, ◌+◌, ◌<◌, ◌≤◌, slice_set, get_or, take, Bool, true, false, cond, not, ◌&&◌, ◌||◌, nat_eq, List, [], ◌∷◌, ◌++◌, length, Option, None, Some, slice_get, refl, sym, ap, subst, ◌∙◌, true≢false, inl, inr, arith}
 use Rattle.std.specs.Prelude.{option_to_list}
+use Rattle.std.specs.BTreeSet.{BTreeSet}
 use Rattle.pe_arena.specs.declared.handle.DocRef.{DocRef}
-use Rattle.pe_prompts.specs.Lists.{IsIn}
-use Rattle.pe_prompts.specs.Requests.{somes, is_of, without, holds, cleared, cleared_count, all_cleared, AreListed}
+use Rattle.pe_prompts.specs.declared.place.Place.{Place}
+use Rattle.pe_prompts.specs.Places.{is_noted}
+use Rattle.pe_prompts.specs.Requests.{somes, is_of, without, holds, cleared, cleared_count, AreNoted}
+use Rattle.pe_prompts.proofs.Items.{same_number}
+use Rattle.pe_prompts.proofs.Noted.{itself, or-true}
 
 -- the values of one more
 pub somes-push : {A : Type 0} (xs : List (Option A)) (x : A) → somes (xs ++ Some x ∷ []) ≡ somes xs ++ x ∷ []
@@ -68,32 +72,32 @@ module _ (doc : ℕ) where
       (elim (is_of doc r) as (λ b. is_of doc r ≡ b → cond (not b) (r ∷ without doc (somes xs)) (without doc (somes xs)) ≡ r ∷ somes xs)
       [ true ↦ λ e. absurd (h zero r refl e) | false ↦ λ e. ap (λ l. r ∷ l) rest ]) refl
 
-  -- the places that are left to take requests from
-  pub AreListed-tail : (xs : List (Option DocRef)) (i : ℕ) (places : List ℕ) → AreListed doc xs (i ∷ places) → AreListed doc (cleared doc xs i) places
-  AreListed-tail xs i places h = λ k r at of.
-      elim (h k r (get-cleared xs i k r at) of) [ inl e ↦ absurd (not-cleared xs i r (subst (λ j. slice_get (cleared doc xs i) j ≡ Some (Some r)) (sym e) at) of) | inr l ↦ l ]
+  -- the places stay noted, once a request of the document is taken from one that is noted no more
+  pub AreNoted-cleared : (xs : List (Option DocRef)) (at : ℕ) (old new : BTreeSet Place) → AreNoted xs old
+      → ((d i : ℕ) → is_noted new d i ≡ cond (nat_eq doc d && nat_eq at i) false (is_noted old d i)) → AreNoted (cleared doc xs at) new
+  AreNoted-cleared xs at old new h rest = λ i r stands. rest r.doc i ∙ by_test i r stands (nat_eq doc r.doc) refl (nat_eq at i) refl
+    where
+      by_test : (i : ℕ) (r : DocRef) → slice_get (cleared doc xs at) i ≡ Some (Some r) → (b : Bool) → nat_eq doc r.doc ≡ b → (c : Bool) → nat_eq at i ≡ c
+          → cond (b && c) false (is_noted old r.doc i) ≡ true
+      by_test i r stands true e true f = absurd (not-cleared xs at r (subst (λ j. slice_get (cleared doc xs at) j ≡ Some (Some r)) (sym (same_number at i f)) stands) e)
+      by_test i r stands true e false f = h i r (get-cleared xs at i r stands)
+      by_test i r stands false e c f = h i r (get-cleared xs at i r stands)
 
-  -- all requests of the document are taken out
-  pub somes-all_cleared : (places : List ℕ) (xs : List (Option DocRef)) → AreListed doc xs places → somes (all_cleared doc xs places) ≡ without doc (somes xs)
-  somes-all_cleared [] xs h = sym (none-without xs (λ i r at of. h i r at of))
-  somes-all_cleared (i ∷ places) xs h =
-      somes-all_cleared places (cleared doc xs i) (AreListed-tail xs i places h) ∙ without-cleared xs i
-
-  -- the places of another document stay
-  pub get-all_cleared : (places : List ℕ) (xs : List (Option DocRef)) (k : ℕ) (r : DocRef) → slice_get (all_cleared doc xs places) k ≡ Some (Some r) → slice_get xs k ≡ Some (Some r)
-  get-all_cleared [] xs k r h = h
-  get-all_cleared (i ∷ places) xs k r h = get-cleared xs i k r (get-all_cleared places (cleared doc xs i) k r h)
-
-  -- none of the document's is left
-  pub none-all_cleared : (places : List ℕ) (xs : List (Option DocRef)) → AreListed doc xs places → (k : ℕ) (r : DocRef) → slice_get (all_cleared doc xs places) k ≡ Some (Some r) → is_of doc r ≡ true → ⊥
-  none-all_cleared [] xs h k r at of = h k r at of
-  none-all_cleared (i ∷ places) xs h k r at of = none-all_cleared places (cleared doc xs i) (AreListed-tail xs i places h) k r at of
+  -- where no place is noted for the document, all requests are the others'
+  pub none-noted : (xs : List (Option DocRef)) (places : BTreeSet Place) → AreNoted xs places → ((i : ℕ) → is_noted places doc i ≡ false) → without doc (somes xs) ≡ somes xs
+  none-noted xs places h none =
+      none-without xs (λ i r stands of. true≢false (sym (h i r stands) ∙ ap (λ d. is_noted places d i) (sym (same_number doc r.doc of)) ∙ none i))
 
 -- the places with one more
-pub AreListed-push : (doc : ℕ) (xs : List (Option DocRef)) (asker : DocRef) (old new : List ℕ)
-    → AreListed doc xs old → ((i : ℕ) → IsIn old i → IsIn new i) → (is_of doc asker ≡ true → IsIn new (length xs)) → AreListed doc (xs ++ Some asker ∷ []) new
-AreListed-push doc xs asker old new h more last = λ k r at of.
-    elim (get-push xs (Some asker) (Some r) k at) [ inl e ↦ more k (h k r e of) | inr e ↦ subst (IsIn new) (sym e.0) (last (let same : asker ≡ r = cc in ap (is_of doc) same ∙ of)) ]
+pub AreNoted-push : (xs : List (Option DocRef)) (asker : DocRef) (old new : BTreeSet Place) → AreNoted xs old
+    → ((d i : ℕ) → is_noted new d i ≡ (nat_eq asker.doc d && nat_eq (length xs) i) || is_noted old d i) → AreNoted (xs ++ Some asker ∷ []) new
+AreNoted-push xs asker old new h more = λ i r stands.
+    more r.doc i ∙ elim (get-push xs (Some asker) (Some r) i stands) [
+      | inl e ↦ or-true (nat_eq asker.doc r.doc && nat_eq (length xs) i) (is_noted old r.doc i) (h i r e)
+      | inr e ↦ let same : asker ≡ r = cc in
+          ap (λ b. (b && nat_eq (length xs) i) || is_noted old r.doc i) (ap (λ (x : DocRef). nat_eq asker.doc x.doc) (sym same) ∙ itself asker.doc)
+          ∙ ap (λ b. b || is_noted old r.doc i) (ap (nat_eq (length xs)) e.0 ∙ itself (length xs))
+    ]
 
 -- what a write of None does
 module _ (doc : ℕ) where

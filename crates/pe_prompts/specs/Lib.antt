@@ -1,4 +1,5 @@
 pub mod Lists
+pub mod Places
 pub mod Requests
 pub mod Pending
 pub mod Queues

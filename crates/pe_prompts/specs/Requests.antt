@@ -1,9 +1,9 @@
 -- The requests that wait for a prompt, and the places where they stand.
 use Rattle.std.specs.Prelude.{◌≡◌, ℕ, suc, zero, nat_eq, Bool, true, false, if◌then◌else◌, List, [], ◌∷◌, length, filter, not, Option, None, Some, slice_get}
-use Rattle.std.specs.Global.{Vec}
-use Rattle.indexmap.specs.IndexMap.{IndexMap}
+use Rattle.std.specs.BTreeSet.{BTreeSet}
 use Rattle.pe_arena.specs.declared.handle.DocRef.{DocRef}
-use Rattle.pe_prompts.specs.Lists.{listed, IsIn}
+use Rattle.pe_prompts.specs.declared.place.Place.{Place}
+use Rattle.pe_prompts.specs.Places.{is_noted}
 
 -- the values of a list of options
 abbrev pub somes : {A : Type 0} → List (Option A) → List A
@@ -44,16 +44,11 @@ cleared_count doc [] i = 0
 cleared_count doc (x ∷ xs) zero = has_once doc x
 cleared_count doc (x ∷ xs) (suc i) = cleared_count doc xs i
 
--- the places, once the requests of the document are taken from each of these
-abbrev pub all_cleared : ℕ → List (Option DocRef) → List ℕ → List (Option DocRef)
-all_cleared doc xs [] = xs
-all_cleared doc xs (i ∷ is) = all_cleared doc (cleared doc xs i) is
+-- the place of each request is noted for its document
+abbrev pub AreNoted : List (Option DocRef) → BTreeSet Place → Type 0
+AreNoted xs places = (i : ℕ) (r : DocRef) → slice_get xs i ≡ Some (Some r) → is_noted places r.doc i ≡ true
 
--- the place of each request of the document is listed
-abbrev pub AreListed : ℕ → List (Option DocRef) → List ℕ → Type 0
-AreListed doc xs places = (i : ℕ) (r : DocRef) → slice_get xs i ≡ Some (Some r) → is_of doc r ≡ true → IsIn places i
-
--- the places of the requests of each document are listed, and the requests counted
-pub record IsWaiting {S : Type 0} (requests : List (Option DocRef)) (places : IndexMap ℕ (Vec ℕ) S) (count : ℕ) : Type 0 where
+-- the places of the requests are noted, and the requests counted
+pub record IsWaiting (requests : List (Option DocRef)) (places : BTreeSet Place) (count : ℕ) : Type 0 where
   pub counted : count ≡ length (somes requests)
-  pub placed : (doc : ℕ) → AreListed doc requests (listed places doc)
+  pub noted : AreNoted requests places

@@ -4,6 +4,7 @@
 mod fault;
 mod given;
 mod lists;
+mod place;
 mod prompts;
 mod queue;
 mod waiting;

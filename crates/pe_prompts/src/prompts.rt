@@ -24,7 +24,8 @@ use std::marker::Model;
 pub struct Prompts {
     // Each prompt that was given.
     given: IndexMap<u32, Given>,
-    // The pending prompts of each page that has some.
+    // The pending prompts of each page. One whose prompts were all settled keeps its room for the next
+    // prompt, until a document goes that asked there.
     pages: IndexMap<u32, Queue>,
     // The prompts that each document asked for, with their pages; some of them may be pending no longer.
     documents: IndexMap<u32, Vec<(FrameNo, PromptNo)>>,
@@ -92,17 +93,14 @@ fn let_go(pages: &mut IndexMap<u32, Queue>, page: FrameNo, empty: bool)
     }
 }
 
-// Takes a prompt of the page out.
+// Takes a prompt of the page out. The page keeps its room.
 fn remove_in(pages: &mut IndexMap<u32, Queue>, page: FrameNo, number: PromptNo)
     ensures queues { (p : ℕ) → queue_of pages.new p ≡ at_page page (remove_entry (nat_eq number) (queue_of pages.old page)) (queue_of pages.old) p }
     ensures gone { prompt_in number (queue_of pages.new page) ≡ None }
 {
-    let Some(queue) = pages.get_mut(&page.get()) else {
-        return;
-    };
-    queue.remove(number);
-    let empty = queue.is_empty();
-    let_go(pages, page, empty);
+    if let Some(queue) = pages.get_mut(&page.get()) {
+        queue.remove(number);
+    }
 }
 
 // Drops the document's requests for a prompt of the page.

@@ -1,12 +1,12 @@
 //! The requests that wait for a prompt.
 ghost use Rattle.std.specs.Prelude.{◌≡◌, ◌++◌, ◌==◌, ◌≤◌, ◌+◌, [], ◌∷◌, OnOk, OnErr, IfOk, IsTrue, ◌↔◌, length, option_to_list};
-ghost use Rattle.pe_prompts.specs.Requests.{somes, without, holds, cleared, cleared_count, all_cleared};
+ghost use Rattle.pe_prompts.specs.Requests.{somes, without, holds, cleared, cleared_count, IsWaiting};
 
-use crate::lists::{put, take};
-use indexmap::IndexMap;
+use crate::place::{Place, note_place, take_first};
 use pe_arena::DocRef;
 use pe_base::DocNo;
 use std::alloc::{AllocError, Global};
+use std::collections::BTreeSet;
 use std::marker::Model;
 
 /// The requests that wait for a prompt, in order of joining. Each is named by its document, which stands
@@ -16,7 +16,7 @@ pub struct Waiting {
     // The requests in order of joining, with None in the place of each whose document went.
     requests: Vec<Option<DocRef>>,
     // The places of the requests of each document.
-    places: IndexMap<u32, Vec<usize>>,
+    places: BTreeSet<Place>,
     // How many wait.
     count: usize,
 }
@@ -69,14 +69,19 @@ fn clear_place(requests: &mut Vec<Option<DocRef>>, place: usize, doc: DocNo) -> 
     1
 }
 
-// Takes the document's requests at the places out, and counts those that are left.
-fn clear_all(requests: &mut Vec<Option<DocRef>>, count: &mut usize, places: &[usize], doc: DocNo)
-    requires { count.old ≡ length (somes requests.old.items) }
-    ensures cleared { requests.new.items ≡ all_cleared doc requests.old.items places.now }
-    ensures count { count.new ≡ length (somes requests.new.items) }
+// Takes the document's requests out, at its places, and counts those that are left.
+fn clear_all(
+    requests: &mut Vec<Option<DocRef>>,
+    places: &mut BTreeSet<Place>,
+    count: &mut usize,
+    doc: DocNo,
+)
+    requires { IsWaiting requests.old.items places.old count.old }
+    ensures cleared { somes requests.new.items ≡ without doc (somes requests.old.items) }
+    ensures waiting { IsWaiting requests.new.items places.new count.new }
 {
-    for place in places {
-        *count -= clear_place(requests, *place, doc);
+    while let Some(place) = take_first(places, doc) {
+        *count -= clear_place(requests, place, doc);
     }
 }
 
@@ -87,7 +92,7 @@ impl Waiting {
     {
         Waiting {
             requests: Vec::new(alloc),
-            places: IndexMap::new(alloc),
+            places: BTreeSet::new(alloc),
             count: 0,
         }
     }
@@ -123,9 +128,8 @@ impl Waiting {
         ensures err { OnErr result (self.new ≡ self.old) }
     {
         self.requests.reserve(1)?;
-        let alloc = *self.requests.allocator();
         let place = self.requests.len();
-        put(&mut self.places, alloc, asker.doc.get(), place)?;
+        note_place(&mut self.places, asker.doc, place)?;
         self.requests.push_reserved(Some(asker));
         self.count += 1;
         Ok(())
@@ -135,8 +139,6 @@ impl Waiting {
     pub(crate) fn drop_of(&mut self, doc: DocNo)
         ensures { self.new ≡ without doc self.old }
     {
-        let alloc = *self.requests.allocator();
-        let places = take(&mut self.places, alloc, doc.get());
-        clear_all(&mut self.requests, &mut self.count, &places, doc);
+        clear_all(&mut self.requests, &mut self.places, &mut self.count, doc);
     }
 }
