@@ -1,6 +1,6 @@
 //! How a browser tells the engine what happens, and asks it on each call.
 ghost use Rattle.std.specs.Prelude.{◌≡◌, ◌<◌, true, IsTrue, IfOk, IfSome, IfNone};
-ghost use Rattle.pe_lines.specs.Words.{is_bad_byte, has_bad_byte};
+ghost use Rattle.pe_lines.specs.Words.{has_bad_byte};
 ghost use Rattle.pe_events.specs.Fitting.{is_fitting, is_text};
 ghost use Rattle.pe_rules.specs.History.{History};
 ghost use Rattle.pe_rules.specs.Replies.{replied};
@@ -13,25 +13,10 @@ use pe_base::{FrameNo, Millis, Steps};
 use pe_engine::{Engine, Replies};
 use pe_events::{Event, Stamped, Verdict};
 use pe_features::Call;
-use pe_lines::Text;
+use pe_lines::{Text, has_bad_byte};
 use std::alloc::AllocError;
 use std::marker::Brand;
 use std::sync::ledger::{Blank, Ledger};
-
-/// Whether an event may not hold the byte.
-fn is_bad_byte(byte: u8) -> bool
-    ensures { result ≡ is_bad_byte byte }
-{
-    byte != b'\t' && (byte < b' ' || byte > b'~')
-}
-
-/// Whether some byte is one that an event may not hold.
-#[tactic(auto, unfolding(pe_lines::specs::Words::has_bad_byte))]
-fn has_bad_byte(bytes: &[u8]) -> bool
-    ensures { result ≡ has_bad_byte bytes.now }
-{
-    bytes.iter().any(|byte| is_bad_byte(*byte))
-}
 
 /// A text as an event may hold it; None where a byte is neither a tab nor printable ASCII.
 pub fn text(bytes: &[u8]) -> Option<Text<'_>>
