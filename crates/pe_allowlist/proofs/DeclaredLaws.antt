@@ -1,15 +1,13 @@
--- The pairs of a map have its meaning.
-use Rattle.std.proofs.Common.{◌≡◌, ℕ, Bool, true, false, ◌==◌, ◌||◌, cond, List, [], ◌∷◌, ◌++◌, Option, Some, None, option_map, find, refl, sym, ◌∙◌, ap, arith}
-use Rattle.std.specs.List.{flat_map, list_any}
+-- The pairs of a map have its meaning, and no feature stands twice in them.
+use Rattle.std.proofs.Common.{◌≡◌, ℕ, Bool, true, false, not, ◌==◌, ◌||◌, ◌&&◌, cond, List, [], ◌∷◌, ◌++◌, Option, Some, None, option_map, find, refl, sym, ◌∙◌, ap, arith}
+use Rattle.std.specs.List.{flat_map, list_any, slice_index_or}
 use Rattle.std.specs.Option.{option_or}
 use Rattle.std.proofs.lemmas.Bool.Decides.{nat_tests}
-use Rattle.std.proofs.lemmas.List.Folds.{find-append}
 use Rattle.pe_features.specs.declared.feature.Feature.{Feature}
 use Rattle.pe_features.specs.declared.feature.Feature.TheVariants.{Accelerometer, Autoplay, Camera, ClipboardRead, ClipboardWrite, DisplayCapture, Fullscreen, Geolocation, Gyroscope, Microphone, Midi, Notifications, Payment, PictureInPicture, Push, StorageAccess}
-use Rattle.std.specs.List.{slice_index_or}
 use Rattle.pe_features.specs.Features.{all_features, feature_number, same_feature}
 use Rattle.pe_allowlist.specs.declared.allowlist.Allowlist.{Allowlist}
-use Rattle.pe_allowlist.specs.Lists.{PolicyDirective, is_of_feature, lists_of}
+use Rattle.pe_allowlist.specs.Lists.{PolicyDirective, is_of_feature, lists_of, NoFeatureTwice}
 use Rattle.pe_allowlist.specs.DeclaredLists.{pair_of, pairs_of}
 
 abbrev feature_at : ℕ → Feature
@@ -93,3 +91,47 @@ each-among StorageAccess = refl
 pub lists_of_pairs : (p : PolicyDirective) (f : Feature) → lists_of (pairs_of p) f ≡ p f
 unfolding lists_of pairs_of
 lists_of_pairs p f = among p all_features f ∙ rw (each-among f) refl
+
+-- ---- no feature stands twice
+
+-- no feature is among those further on
+abbrev distinct : List Feature → Bool
+distinct [] = true
+distinct (f ∷ fs) = not (list_any (λ g. same_feature g f) fs) && distinct fs
+
+or-false : (a b : Bool) → (a || b) ≡ false → (a ≡ false) × (b ≡ false)
+or-false true b h = cc
+or-false false b h = (refl, h)
+
+and-true : (a b : Bool) → (not a && b) ≡ true → (a ≡ false) × (b ≡ true)
+and-true true b h = cc
+and-true false b h = (refl, h)
+
+absent-more : (g f : Feature) (o : Option Allowlist) (rest : List (Feature × Allowlist)) → same_feature g f ≡ false
+    → find (is_of_feature f) rest ≡ None → find (is_of_feature f) (pair_of g o ++ rest) ≡ None
+absent-more g f None rest h k = k
+absent-more g f (Some list) rest h k = rw h k
+
+-- the pairs of features that another is not among have none of it
+absent : (p : PolicyDirective) (fs : List Feature) (f : Feature) → list_any (λ g. same_feature g f) fs ≡ false
+    → find (is_of_feature f) (flat_map (λ g. pair_of g (p g)) fs) ≡ None
+absent p [] f h = refl
+absent p (g ∷ fs) f h =
+    let parts = or-false (same_feature g f) (list_any (λ g. same_feature g f) fs) h in
+    absent-more g f (p g) (flat_map (λ g. pair_of g (p g)) fs) parts.0 (absent p fs f parts.1)
+
+once-more : (g : Feature) (o : Option Allowlist) (rest : List (Feature × Allowlist))
+    → find (is_of_feature g) rest ≡ None → NoFeatureTwice rest → NoFeatureTwice (pair_of g o ++ rest)
+once-more g None rest h k = k
+once-more g (Some list) rest h k = (h, k)
+
+once-among : (p : PolicyDirective) (fs : List Feature) → distinct fs ≡ true → NoFeatureTwice (flat_map (λ g. pair_of g (p g)) fs)
+once-among p [] h = tt
+once-among p (g ∷ fs) h =
+    let parts = and-true (list_any (λ f. same_feature f g) fs) (distinct fs) h in
+    once-more g (p g) (flat_map (λ g. pair_of g (p g)) fs) (absent p fs g parts.0) (once-among p fs parts.1)
+
+-- no feature stands twice in a map's pairs
+pub pairs_once : (p : PolicyDirective) → NoFeatureTwice (pairs_of p)
+unfolding pairs_of
+pairs_once p = once-among p all_features refl

@@ -47,6 +47,13 @@ impl Expressions {
         Ok(())
     }
 
+    /// Gives back the memory beyond what the expressions take.
+    pub(crate) fn shrink(&mut self)
+        ensures { self.new ≡ self.old }
+    {
+        self.items.shrink_to_fit();
+    }
+
     /// The expressions.
     pub fn as_slice(&self) -> &[Expression]
         ensures { result.now ≡ self.now }

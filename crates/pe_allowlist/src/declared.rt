@@ -29,16 +29,19 @@ impl Model for Declared {
     ghost use Rattle.std.specs.Box.{box_value};
     ghost use Rattle.pe_features.specs.declared.feature.Feature.{Feature};
     ghost use Rattle.pe_allowlist.specs.declared.allowlist.Allowlist.{Allowlist};
+    ghost use Rattle.pe_allowlist.specs.Lists.{NoFeatureTwice};
     ghost use Rattle.pe_allowlist.specs.DeclaredLists.{directive_of, pairs_of};
 
     ghost Value = { List (Feature × Allowlist) };
 
     ghost view = { λ d. pairs_of (directive_of (option_map box_value d.lists)) };
+
+    ghost invariant = { λ d. NoFeatureTwice (pairs_of (directive_of (option_map box_value d.lists))) };
 }
 
 impl Declared {
     /// The empty map. It takes no memory.
-    #[tactic(auto, using(crate::proofs::DeclaredLaws::lists_of_pairs))]
+    #[tactic(auto, using(crate::proofs::DeclaredLaws::lists_of_pairs, crate::proofs::DeclaredLaws::pairs_once))]
     pub fn empty() -> Declared
         ensures { (f : Feature) → lists_of result f ≡ no_lists f }
     {
@@ -46,7 +49,7 @@ impl Declared {
     }
 
     /// The map of these lists for a document of the own origin. `AllocError` where memory wants.
-    #[tactic(auto, using(crate::proofs::DeclaredLaws::lists_of_pairs))]
+    #[tactic(auto, using(crate::proofs::DeclaredLaws::lists_of_pairs, crate::proofs::DeclaredLaws::pairs_once))]
     pub fn of(alloc: Global, own: &Origin, lists: DeclaredLists) -> Result<Declared, AllocError>
         ensures { IfOk result (λ declared. (f : Feature)
             → lists_of declared f ≡ option_map (allowlist_of own.now) (list_at lists f)) }

@@ -111,7 +111,9 @@ impl DeclaredLists {
             → list_at self.new f ≡ (if same_feature feature f then Some list else list_at self.old f)) }
         ensures wanting { OnErr result ((f : Feature) → list_at self.new f ≡ list_at self.old f) }
     {
-        put_expressions(&mut self.expressions, feature.index(), list.expressions)?;
+        let mut expressions = list.expressions;
+        expressions.shrink();
+        put_expressions(&mut self.expressions, feature.index(), expressions)?;
         self.keywords[feature.index()] = Some(list.keywords);
         Ok(())
     }

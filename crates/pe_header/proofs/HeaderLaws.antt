@@ -1,5 +1,5 @@
 -- The features in turn, and the declared policy of a field.
-use Rattle.std.proofs.Common.{◌≡◌, ℕ, zero, suc, ◌+◌, ◌<◌, Bool, true, false, ◌==◌, nat_lt, cond, List, Option, Some, None, Result, Ok, Err, IfOk, refl, ◌∙◌, ap, arith}
+use Rattle.std.proofs.Common.{◌≡◌, ℕ, zero, suc, ◌+◌, ◌<◌, Bool, true, false, ◌==◌, nat_lt, cond, List, Option, Some, None, Result, Ok, Err, IfOk, OnOk, option_map, is_some, refl, sym, ◌∙◌, ap, arith}
 use Rattle.std.specs.Option.{option_or}
 use Rattle.std.specs.List.{slice_index_or}
 use Rattle.std.proofs.lemmas.Bool.Decides.{nat_tests}
@@ -7,10 +7,16 @@ use Rattle.pe_features.specs.declared.feature.Feature.{Feature}
 use Rattle.pe_features.specs.declared.feature.Feature.TheVariants.{Accelerometer, Autoplay, Camera, ClipboardRead, ClipboardWrite, DisplayCapture, Fullscreen, Geolocation, Gyroscope, Microphone, Midi, Notifications, Payment, PictureInPicture, Push, StorageAccess}
 use Rattle.pe_features.specs.Features.{all_features, feature_number, same_feature}
 use Rattle.pe_origin.specs.declared.origin.Origin.{Origin}
+use Rattle.pe_fields.specs.declared.value.Bare.{Bare}
 use Rattle.pe_fields.specs.declared.value.Member.{Member}
+use Rattle.pe_fields.specs.declared.value.Value.{Value}
+use Rattle.pe_fields.specs.declared.value.Value.TheVariants as value
 use Rattle.pe_fields.specs.Reading.{dictionary}
 use Rattle.pe_allowlist.specs.declared.allowlist.Allowlist.{Allowlist}
-use Rattle.pe_header.specs.DeclaredPolicy.{list_of_members, declared_policy}
+use Rattle.pe_allowlist.specs.declared.lists.DeclaredList.{DeclaredList}
+use Rattle.pe_allowlist.specs.Allowlists.{empty_list}
+use Rattle.pe_allowlist.specs.DeclaredLists.{allowlist_of}
+use Rattle.pe_header.specs.DeclaredPolicy.{with_bare, list_of_value, list_of_members, declared_policy}
 
 -- ---- features and their numbers
 
@@ -83,6 +89,31 @@ members-more list i f old new h before step = by_test (i == feature_number f) re
     by_test false t =
         let other : nat_lt (feature_number f) (i + 1) ≡ nat_lt (feature_number f) i = grind (arith, nat_tests) in
         step ∙ rw (tested, t, other) before
+
+-- a bare item that stands for nothing declares nothing
+pub nothing-declared : (own : Origin) (found : Value) (bare : Bare) (list : Allowlist) (known : Bool) → found ≡ value.Item bare → list ≡ empty_list
+    → known ≡ is_some (with_bare own list bare) → known ≡ false → None ≡ list_of_value own found
+unfolding list_of_value
+nothing-declared own found bare list known v e h k = rw v (none-is (with_bare own empty_list bare) (sym (h ∙ rw e refl) ∙ k))
+  where
+    none-is : (o : Option Allowlist) → is_some o ≡ false → None ≡ o
+    none-is None t = refl
+    none-is (Some list) t = cc
+
+-- a feature with a declared list, and one without
+pub list_put : (own : Origin) (list : DeclaredList) (b : Bool) (declares : Option Allowlist) (old new : Option DeclaredList) → Some (allowlist_of own list) ≡ declares
+    → new ≡ cond b (Some list) old
+    → option_map (allowlist_of own) new ≡ cond b (option_or declares (option_map (allowlist_of own) old)) (option_map (allowlist_of own) old)
+list_put own list true declares old new h k = rw (k, ← h) refl
+list_put own list false declares old new h k = rw k refl
+
+pub list_left : (b : Bool) (declares old : Option Allowlist) → None ≡ declares → old ≡ cond b (option_or declares old) old
+list_left true declares old h = rw (← h) refl
+list_left false declares old h = refl
+
+pub on-ok : {A E : Type 0} {P Q : Type 0} (r : Result A E) → (P → Q) → OnOk r P → OnOk r Q
+on-ok (Ok x) h p = h p
+on-ok (Err e) h p = p
 
 -- ---- fields
 

@@ -35,6 +35,7 @@ fn read_feature(
 }
 
 /// Gives the feature the list that the dictionary declares for it, if it declares one.
+#[tactic(auto, using(crate::proofs::HeaderLaws::list_put, crate::proofs::HeaderLaws::list_left))]
 fn put_feature(
     alloc: Global,
     lists: &mut DeclaredLists,
