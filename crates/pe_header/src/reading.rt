@@ -29,11 +29,7 @@ fn put_token(list: &mut DeclaredList, token: &[u8]) -> bool
 
 /// Puts into the list what a bare item stands for, and says whether it stands for something.
 #[tactic(auto, unfolding(crate::specs::DeclaredPolicy::with_bare))]
-fn put_bare(
-    alloc: Global,
-    list: &mut DeclaredList,
-    bare: &Bare<'_>,
-) -> Result<bool, AllocError>
+fn put_bare(alloc: Global, list: &mut DeclaredList, bare: &Bare<'_>) -> Result<bool, AllocError>
     ensures known { IfOk result (λ known. (own : Origin)
         → known ≡ is_some (spec.with_bare own (allowlist_of own list.old) bare.now)) }
     ensures list { OnOk result ((own : Origin)
@@ -53,11 +49,7 @@ fn put_bare(
 }
 
 /// Puts into the list what the items of an inner list stand for.
-fn put_items(
-    alloc: Global,
-    list: &mut DeclaredList,
-    items: &[Item<'_>],
-) -> Result<(), AllocError>
+fn put_items(alloc: Global, list: &mut DeclaredList, items: &[Item<'_>]) -> Result<(), AllocError>
     ensures { OnOk result ((own : Origin)
         → allowlist_of own list.new ≡ fold (spec.with_item own) (allowlist_of own list.old) items.now) }
 {
