@@ -15,7 +15,7 @@ pub use allowlist::{Allowlist, Expression, Expressions};
 pub use container::{Container, DeclaredOrigin};
 pub use declared::Declared;
 pub use expression::read_expression;
-pub use lists::{DeclaredList, DeclaredLists, Keywords};
+pub use lists::{DeclaredList, DeclaredLists};
 pub use reading::read_allow;
 pub use words::is_whitespace;
 

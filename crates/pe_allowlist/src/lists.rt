@@ -6,7 +6,7 @@ ghost use Rattle.pe_features.specs.Features.{same_feature, feature_number};
 ghost use Rattle.pe_origin.specs.declared.origin.Origin.{Origin as OriginOf};
 ghost use Rattle.pe_allowlist.specs.Expressions as expression;
 ghost use Rattle.pe_allowlist.specs.Allowlists as spec;
-ghost use Rattle.pe_allowlist.specs.DeclaredLists.{allowlist_of, list_at, expressions_at};
+ghost use Rattle.pe_allowlist.specs.DeclaredLists.{allowlist_of, keywords_of, list_at, expressions_at};
 
 use crate::allowlist::{Expression, Expressions};
 use crate::matching::is_any_matching;
@@ -14,29 +14,37 @@ use pe_features::Feature;
 use pe_origin::{Origin, same_origin};
 use std::alloc::{AllocError, Global};
 
-/// The keywords of a declared allowlist.
-#[derive(Clone, Copy, Debug)]
-pub struct Keywords {
+/// An allowlist as a header declares it.
+#[derive(Debug, Drop)]
+pub struct DeclaredList {
     /// `*` stands in it: every origin is matched.
     pub any: bool,
     /// `self` stands in it: the document's own origin is matched.
     pub own: bool,
-}
-
-/// An allowlist as a header declares it.
-#[derive(Debug, Drop)]
-pub struct DeclaredList {
-    /// The keywords that stand in it.
-    pub keywords: Keywords,
     /// The expressions that stand in it.
     pub expressions: Expressions,
 }
 
-/// The allowlists that a header declares. Each takes three bytes, beside its expressions.
+/// Whether a feature has a list, and the keywords in it.
+#[derive(Clone, Copy, Debug)]
+pub(crate) enum Keywords {
+    /// There is no list.
+    NoList,
+    /// A list without keywords.
+    Neither,
+    /// A list with `*`.
+    Any,
+    /// A list with `self`.
+    Own,
+    /// A list with `*` and `self`.
+    Both,
+}
+
+/// The allowlists that a header declares. Each takes a byte, beside its expressions.
 #[derive(Debug, Drop)]
 pub struct DeclaredLists {
-    /// The keywords of each feature that has a list, in the order of the table.
-    keywords: [Option<Keywords>; 16],
+    /// The keywords of each feature, in the order of the table.
+    keywords: [Keywords; 16],
     /// The expressions of the features, in the order of the table, up to the last that has some.
     expressions: Vec<Expressions>,
 }
@@ -47,11 +55,36 @@ impl DeclaredList {
         ensures { (own : OriginOf) → allowlist_of own result ≡ spec.empty_list }
     {
         DeclaredList {
-            keywords: Keywords {
-                any: false,
-                own: false,
-            },
+            any: false,
+            own: false,
             expressions: Expressions::of(Vec::new(alloc)),
+        }
+    }
+}
+
+impl Keywords {
+    /// The keywords of a list.
+    fn of(any: bool, own: bool) -> Keywords
+        ensures { keywords_of result ≡ Some (any, own) }
+    {
+        match (any, own) {
+            (false, false) => Keywords::Neither,
+            (true, false) => Keywords::Any,
+            (false, true) => Keywords::Own,
+            (true, true) => Keywords::Both,
+        }
+    }
+
+    /// Whether `*` stands in the list, and whether `self` does; None where there is no list.
+    fn get(self) -> Option<(bool, bool)>
+        ensures { result ≡ keywords_of self }
+    {
+        match self {
+            Keywords::NoList => None,
+            Keywords::Neither => Some((false, false)),
+            Keywords::Any => Some((true, false)),
+            Keywords::Own => Some((false, true)),
+            Keywords::Both => Some((true, true)),
         }
     }
 }
@@ -84,13 +117,17 @@ fn put_expressions(
 
 /// Whether the keywords or the expressions match the origin, in a document of the own origin.
 #[tactic(auto, unfolding(crate::specs::Allowlists::matches))]
-fn matches(keywords: Keywords, expressions: &[Expression], own: &Origin, origin: &Origin) -> bool
+fn matches(
+    has_any: bool,
+    has_own: bool,
+    expressions: &[Expression],
+    own: &Origin,
+    origin: &Origin,
+) -> bool
     ensures { result
-        ≡ spec.matches (allowlist_of own.now (record { keywords = keywords; expressions = expressions.now })) origin.now }
+        ≡ spec.matches (allowlist_of own.now (record { any = has_any; own = has_own; expressions = expressions.now })) origin.now }
 {
-    keywords.any
-        || (keywords.own && same_origin(own, origin))
-        || is_any_matching(expressions, origin)
+    has_any || (has_own && same_origin(own, origin)) || is_any_matching(expressions, origin)
 }
 
 impl DeclaredLists {
@@ -99,7 +136,7 @@ impl DeclaredLists {
         ensures { (f : Feature) → list_at result f ≡ None }
     {
         DeclaredLists {
-            keywords: [None; 16],
+            keywords: [Keywords::NoList; 16],
             expressions: Vec::new(alloc),
         }
     }
@@ -114,7 +151,7 @@ impl DeclaredLists {
         let mut expressions = list.expressions;
         expressions.shrink();
         put_expressions(&mut self.expressions, feature.index(), expressions)?;
-        self.keywords[feature.index()] = Some(list.keywords);
+        self.keywords[feature.index()] = Keywords::of(list.any, list.own);
         Ok(())
     }
 
@@ -134,7 +171,7 @@ impl DeclaredLists {
         ensures { result
             ≡ option_map (λ list. spec.matches (allowlist_of own.now list) origin.now) (list_at self.now feature) }
     {
-        let keywords = self.keywords[feature.index()]?;
-        Some(matches(keywords, self.expressions(feature), own, origin))
+        let (has_any, has_own) = self.keywords[feature.index()].get()?;
+        Some(matches(has_any, has_own, self.expressions(feature), own, origin))
     }
 }

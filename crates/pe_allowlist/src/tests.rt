@@ -348,7 +348,7 @@ fn a_list_replaces_the_earlier(rt: HostRuntime) -> Result<(), Fail> {
     let mut lists = DeclaredLists::empty(rt.alloc());
     lists.put(Feature::Midi, DeclaredList::empty(rt.alloc()))?;
     let mut list = DeclaredList::empty(rt.alloc());
-    list.keywords.own = true;
+    list.own = true;
     lists.put(Feature::Camera, list)?;
     let mut list = DeclaredList::empty(rt.alloc());
     if let Some(expression) = read_expression(rt.alloc(), b"https://b.example")? {
@@ -357,7 +357,7 @@ fn a_list_replaces_the_earlier(rt: HostRuntime) -> Result<(), Fail> {
     assert_eq!(rt; list.expressions.as_slice().len(), 1);
     lists.put(Feature::Camera, list)?;
     let mut list = DeclaredList::empty(rt.alloc());
-    list.keywords.own = true;
+    list.own = true;
     lists.put(Feature::Autoplay, list)?;
     let declared = Declared::of(rt.alloc(), &own, lists)?;
     assert_eq!(rt; declared.matches(Feature::Camera, &own), Some(false));

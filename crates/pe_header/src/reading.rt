@@ -17,11 +17,11 @@ fn put_token(list: &mut DeclaredList, token: &[u8]) -> bool
         ≡ unwrap_or (spec.with_token own (allowlist_of own list.old) token.now) (allowlist_of own list.old) }
 {
     if token == b"*".as_slice() {
-        list.keywords.any = true;
+        list.any = true;
         return true;
     }
     if token == b"self".as_slice() {
-        list.keywords.own = true;
+        list.own = true;
         return true;
     }
     false

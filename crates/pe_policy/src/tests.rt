@@ -416,9 +416,9 @@ fn declared(
     let mut list = DeclaredList::empty(alloc);
     for word in words.split_whitespace() {
         if word == "*" {
-            list.keywords.any = true;
+            list.any = true;
         } else if word == "self" {
-            list.keywords.own = true;
+            list.own = true;
         } else if let Some(expression) = read_expression(alloc, word.as_bytes())? {
             list.expressions.push(expression)?;
         }
