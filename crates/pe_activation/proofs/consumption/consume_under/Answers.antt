@@ -60,4 +60,4 @@ loop-following-smaller g c =
     let then = ap (after next) (sym same) ∙ sym c.preorder_following-following-in-Some.ensures.value in
     subst (λ (o : Option _). left c.preorder_following-following-in-Some.result hs < left o hs) (sym c.in-Some.is)
     (left-less hs next c.preorder_following-following-in-Some.result (c.is_visited_in_tree_order.ensures.within root next)
-        (λ h q. ap length (c.is_visited_in_tree_order.ensures.next root next h (then ∙ q)) ∙ length-append (visited next hs) (h ∷ [])))
+    (λ h q. ap length (c.is_visited_in_tree_order.ensures.next root next h (then ∙ q)) ∙ length-append (visited next hs) (h ∷ [])))

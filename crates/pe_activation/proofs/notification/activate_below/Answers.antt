@@ -21,13 +21,13 @@ loop-following-init g c =
     record {
       at = root;
       walked = record {
-      listed = c.is_visited_in_tree_order.ensures.root root c.requires.live;
-      counted = sym counted;
-      few = omega (arith, one);
-      so_far = omega (arith, one);
-      entries = left-first set c.args.now test (entry_of old.entries root) c.requires.live old.entries (changed_to (activated_where test set c.args.now) old.entries root root) root (c.is_changed_in_tree_order.ensures.first (activated_where test set c.args.now) root) c.requires.before (kept old.entries c.is_changed_in_tree_order.ensures.one root);
-      marks = refl;
-      made = refl;
+        listed = c.is_visited_in_tree_order.ensures.root root c.requires.live;
+        counted = sym counted;
+        few = omega (arith, one);
+        so_far = omega (arith, one);
+        entries = left-first set c.args.now test (entry_of old.entries root) c.requires.live old.entries (changed_to (activated_where test set c.args.now) old.entries root root) root (c.is_changed_in_tree_order.ensures.first (activated_where test set c.args.now) root) c.requires.before (kept old.entries c.is_changed_in_tree_order.ensures.one root);
+        marks = refl;
+        made = refl;
       };
       following = sym c.preorder_following-following.ensures.value;
     }
@@ -95,7 +95,7 @@ loop-following-smaller g c =
     let then = ap (after next) (sym as_before) ∙ sym c.preorder_following-following-in-Some.ensures.value in
     subst (λ (o : Option _). left c.preorder_following-following-in-Some.result hs < left o hs) (sym c.in-Some.is)
     (left-less hs next c.preorder_following-following-in-Some.result (c.is_visited_in_tree_order.ensures.within root next)
-        (λ h q. ap length (c.is_visited_in_tree_order.ensures.next root next h (then ∙ q)) ∙ length-append (visited next hs) (h ∷ [])))
+    (λ h q. ap length (c.is_visited_in_tree_order.ensures.next root next h (then ∙ q)) ∙ length-append (visited next hs) (h ∷ [])))
 
 pub returns-clause-entries : goal.returns-clause-entries
 returns-clause-entries g c =
