@@ -16,6 +16,11 @@ module _ {D : Type 0} where
   lives None p w = absurd w
   lives (Some e) p w = refl
 
+  -- a frame that is changed lives on
+  pub lives-on : (o : Option (Entry D)) (f : Entry D → Entry D) → IsSome o → IsSome (option_map f o)
+  lives-on None f l = l
+  lives-on (Some e) f l = refl
+
   -- what is so of the top frame's handle is so of the page
   pub of_page : (o : Option (Entry D)) (top : Handle) → option_map top_of o ≡ Some top → (F G : Handle → List (Entry D)) (new : List (Entry D)) → new ≡ F top → IfSome o (λ e. F (top_of e) ≡ G (top_of e)) → IfSome o (λ e. new ≡ G (top_of e))
   of_page None top q F G new n w = tt

@@ -112,12 +112,12 @@ fn consume_at<D: Activatable, L: Ledger>(
     what: Consuming,
     steps: &mut Steps<L>,
 )
+    requires { IsSome (entry_of frames.old.entries h) }
     ensures written { IfSome (entry_of frames.old.entries h) (λ e. frames.new ≡ with_doc frames.old h (leaving D.stamp_of D.with_stamp D.with_second what e.doc)) }
     ensures cost { steps.new ≡ steps.old + 1 }
 {
-    if let Some(doc) = frames.doc_mut(h, steps) {
-        consume_in(doc, what);
-    }
+    let doc = frames.doc_mut(h, steps).unwrap();
+    consume_in(doc, what);
 }
 
 fn consume_in<D: Activatable>(doc: &mut D, what: Consuming)

@@ -109,6 +109,8 @@ fn activate_where_same<D: Activatable, L: Ledger>(
     now: Millis,
     steps: &mut Steps<L>,
 ) -> u32
+    requires first { IsSome (entry_of frames.old.entries first) }
+    requires second { IsSome (entry_of frames.old.entries second) }
     ensures written { IfSome (entry_of frames.old.entries second) (λ x. frames.new ≡ (if is_same_as D.is_same_origin (entry_of frames.old.entries first) x.doc then with_doc frames.old second (activated D.with_stamp now x) else frames.old)) }
     ensures count { IfSome (entry_of frames.old.entries second) (λ x. result ≡ (if is_same_as D.is_same_origin (entry_of frames.old.entries first) x.doc then 1 else 0)) }
     ensures within { result ≤ 1 }
@@ -128,15 +130,13 @@ fn are_same_origin<D: Activatable, L: Ledger>(
     second: Handle,
     steps: &mut Steps<L>,
 ) -> bool
+    requires first { IsSome (entry_of frames.now.entries first) }
+    requires second { IsSome (entry_of frames.now.entries second) }
     ensures value { IfSome (entry_of frames.now.entries second) (λ x. result ≡ is_same_as D.is_same_origin (entry_of frames.now.entries first) x.doc) }
     ensures cost { steps.new ≤ steps.old + 2 }
 {
-    let Some(one) = frames.node(first, steps) else {
-        return false;
-    };
-    let Some(other) = frames.node(second, steps) else {
-        return false;
-    };
+    let one = frames.node(first, steps).unwrap();
+    let other = frames.node(second, steps).unwrap();
     one.doc.same_origin(&other.doc)
 }
 
@@ -146,10 +146,10 @@ fn activate_at<D: Activatable, L: Ledger>(
     now: Millis,
     steps: &mut Steps<L>,
 )
+    requires { IsSome (entry_of frames.old.entries h) }
     ensures written { IfSome (entry_of frames.old.entries h) (λ e. frames.new ≡ with_doc frames.old h (activated D.with_stamp now e)) }
     ensures cost { steps.new ≡ steps.old + 1 }
 {
-    if let Some(doc) = frames.doc_mut(h, steps) {
-        doc.set_stamp(Stamp::At(now));
-    }
+    let doc = frames.doc_mut(h, steps).unwrap();
+    doc.set_stamp(Stamp::At(now));
 }

@@ -1,5 +1,5 @@
 -- Where a live frame stands.
-use Rattle.std.proofs.Common.{◌≡◌, ℕ, List, [], Option, None, Some, is_some, refl, sym, ap, ◌∙◌, true≢false}
+use Rattle.std.proofs.Common.{◌≡◌, ℕ, List, [], Option, None, Some, is_some, IsSome, refl, sym, ap, ◌∙◌, true≢false}
 use Rattle.std.specs.Option.{option_map}
 use Rattle.pe_arena.specs.declared.handle.Handle.{Handle}
 use Rattle.pe_arena.specs.Slots.{Slots, live}
@@ -11,6 +11,11 @@ use Rattle.pe_frames.specs.Neighbours.{links_in}
 use Rattle.pe_frames.specs.Kept.{kept, entries_in, standing_in, HasLinks, IsForest}
 use Rattle.pe_frames.proofs.Nodes.{found-live}
 use Rattle.pe_frames.proofs.Lemmas.{some_same}
+
+-- something is there, where nothing cannot be
+pub some-unless : {A : Type 0} (o : Option A) → (o ≡ None → ⊥) → IsSome o
+some-unless None not = absurd (not refl)
+some-unless (Some x) not = refl
 
 module _ {D : Type 0} where
   -- where the frame of a row stands

@@ -1,13 +1,11 @@
 //! The walk over the tree.
 ghost use Rattle.std.specs.Prelude.{◌≡◌, ◌↔◌, ◌∷◌, Some, None, IsSome, IsSomeAnd, IsTrue, IfSome, IfOk, unwrap_or, false};
-ghost use Rattle.std.specs.Option.{option_map};
 ghost use Rattle.pe_frames.specs.Forest.{entry_of, has_handle, is_under, last_of};
 ghost use Rattle.pe_frames.specs.Order.{after, child_handles, next_child_of, handles_under};
-ghost use Rattle.pe_frames.specs.Kept.{standing_in};
 
 use crate::frames::Frames;
 use crate::node::Numbered;
-use crate::row::{FramePosition, names};
+use crate::row::names;
 use pe_arena::Handle;
 use std::alloc::AllocError;
 
@@ -91,29 +89,27 @@ impl<D: Numbered> Frames<D> {
         ensures value { result ≡ after at (handles_under self.now.entries root) }
     {
         let _ = &self.order;
-        let here = self.standing(at)?;
-        if here.links.first.is_some() {
-            return here.links.first;
+        let first = self.standing(at).unwrap().links.first;
+        if first.is_some() {
+            return first;
         }
-        self.past(root, at, here)
+        self.past(root, at)
     }
 
-    // What stands behind a frame, which stands here, and all below it: the later sibling of the nearest
-    // frame on the way up to the root that has one.
-    fn past(&self, root: Handle, at: Handle, here: FramePosition) -> Option<Handle>
-        requires under { IsSomeAnd (entry_of self.now.entries at) (λ e. IsTrue (is_under root e)) }
-        requires here { option_map (standing_in self.now.entries at) (entry_of self.now.entries at) ≡ Some here }
+    // What stands behind a frame and all below it: the later sibling of the nearest frame on the way
+    // up to the root that has one.
+    fn past(&self, root: Handle, at: Handle) -> Option<Handle>
+        requires { IsSomeAnd (entry_of self.now.entries at) (λ e. IsTrue (is_under root e)) }
         ensures { result ≡ after (unwrap_or (last_of (handles_under self.now.entries at)) at) (handles_under self.now.entries root) }
     {
         let _ = &self.order;
         let mut up = at;
-        let mut place = here;
         while up != root {
-            if place.links.later.is_some() {
-                return place.links.later;
+            let here = self.standing(up).unwrap();
+            if here.links.later.is_some() {
+                return here.links.later;
             }
-            up = place.parent?;
-            place = self.standing(up)?;
+            up = here.parent.unwrap();
         }
         None
     }

@@ -1,12 +1,13 @@
 use Rattle.std.proofs.Common.{◌≡◌, ◌++◌, ◌∷◌, [], append_assoc, Option, refl, length, length-append, sym, ap, subst, ◌∙◌, arith}
-use Rattle.std.specs.Prelude.{IfSome, map}
+use Rattle.std.specs.Prelude.{IfSome, IsSome, map}
 use Rattle.std.specs.Option.{option_and_then}
 use Rattle.std.proofs.lemmas.List.{append-nil}
 use Rattle.pe_base.specs.declared.input.Stamp.TheVariants as stamp
 use Rattle.pe_base.specs.declared.limits.TheConstants.{DEPTH_LIMIT}
 use Rattle.pe_frames.specs.Forest.{Entry, entry_of, has_handle, parent_of, path_of, with_doc, with_document}
+use Rattle.pe_frames.specs.Walk.{changed_where}
 use Rattle.pe_activation.specs.Notifying.{activated}
-use Rattle.pe_activation.proofs.Wrote.{wrote}
+use Rattle.pe_activation.proofs.Wrote.{lives-on, wrote}
 use Rattle.pe_activation.proofs.Notified.{activated_in, again, first-written, parent-same, path-long, path-top}
 use Rattle.pe_activation.proofs.notification.activate_upward.Goals as goal
 
@@ -18,6 +19,20 @@ loop-parent-init g c =
     let w = wrote (entry_of old.entries h) c.requires.live old c.activate_at.new.frames h (set (stamp.At c.args.now)) (activated_in set c.args.now (h ∷ []) old.entries) c.activate_at.ensures.written (first-written old.entries c.is_changed_in_tree_order.ensures.one (activated set c.args.now) h) in
     let cost = c.activate_at.ensures.cost in
     record { passed = []; live = c.requires.live; path = sym (append-nil (path_of old.entries h)); entries = w.0; marks = w.1; made = w.2; counted = refl; so_far = omega (arith, cost) }
+
+pub activate_at-requires-in-Some : goal.activate_at-requires-in-Some
+activate_at-requires-in-Some g c =
+    let old = c.args.frames.now in
+    let set = g.D.Activatable.with_stamp in
+    let now = c.args.now in
+    let at = c.loop-parent.at in
+    let p = c.in-Some.parent in
+    let here = c.loop-parent.invariant in
+    let before = λ (x : Entry _). has_handle x.handle (at ∷ here.passed) in
+    let found = ap (λ es. entry_of es at) here.entries ∙ c.is_a_tree.ensures.found before (activated set now) at in
+    let parent = sym (ap (option_and_then parent_of) found ∙ parent-same before (activated set now) (entry_of old.entries at)) ∙ sym c.parent.ensures ∙ c.in-Some.is in
+    let there = ap (λ es. entry_of es p) here.entries ∙ c.is_a_tree.ensures.found before (activated set now) p in
+    subst IsSome (sym there) (lives-on (entry_of old.entries p) (changed_where before (activated set now)) (c.is_climbed_by_parents.ensures.live at p parent))
 
 pub loop-parent-preserved : goal.loop-parent-preserved
 loop-parent-preserved g c =
