@@ -1,9 +1,9 @@
-use Rattle.std.proofs.Common.{◌≡◌, ℕ, ◌+◌, ◌<◌, ◌≤◌, ◌∙◌, Bool, true, false, not, sym, ap, subst, cond, List, length, Option, Some, None, is_some, MatchOption, IfSome, IfNone, arith}
+use Rattle.std.proofs.Common.{◌≡◌, ℕ, ◌+◌, ◌<◌, ◌≤◌, ◌∙◌, Bool, true, false, not, sym, ap, cond, List, length, Option, Some, None, is_some, MatchOption, IfSome, IfNone, arith}
 use Rattle.std.specs.Map.{values_of}
 use Rattle.pe_base.specs.declared.limits.TheConstants.{STORE_LIMIT}
 use Rattle.pe_store.specs.declared.entry.Entry.{Entry}
 use Rattle.pe_store.specs.declared.place.Place.{Place}
-use Rattle.pe_store.specs.Entries.{StoreValue, dismissals_of, pair_of, entry_of, put_entry, stored}
+use Rattle.pe_store.specs.Entries.{StoreValue, dismissals_of, entry_of, stored}
 use Rattle.pe_store.specs.Pairs.{Pair, is_same_pair}
 use Rattle.pe_store.specs.Places.{PlacedEntries, HasRow}
 use Rattle.pe_store.proofs.Lists.{found-put, counts-anew}
