@@ -1,5 +1,5 @@
 -- What a change of one key's number does to the numbers of pairs.
-use Rattle.std.proofs.Common.{◌≡◌, ◌≢◌, ◌&&◌, ℕ, zero, suc, ◌<◌, Bool, true, false, cond, List, [], ◌∷◌, length, Option, get_or, set, length-set, refl, sym, ap, ◌∙◌, arith}
+use Rattle.std.proofs.Common.{◌≡◌, ◌≢◌, ◌&&◌, ℕ, zero, suc, ◌<◌, Bool, true, false, cond, List, [], ◌∷◌, length, Option, None, get_or, set, length-set, refl, sym, ap, ◌∙◌, arith}
 use Rattle.std.specs.Prelude.{◌==◌}
 use Rattle.std.specs.Bool.{Decides}
 use Rattle.std.specs.List.{AllByRecursion}
@@ -16,6 +16,20 @@ use Rattle.pe_store.proofs.SameKey.{key_eq, eq-is-same, lookup-is}
 pub number-is : (pairs : (p q : Pair) → Decides (is_same_pair p q) (p ≡ q)) (k : Key) (es : KeyNumbers) → lookup (key_eq k) es ≡ number_in es k
 unfolding number_in
 number-is pairs k es = lookup-is pairs k es
+
+-- where no key has a number
+pub number-none : (numbers self : KeyNumbers) (key : Key) → numbers ≡ self → length numbers ≡ 0 → None ≡ number_in self key
+unfolding number_in
+number-none [] self key same none = ap (λ (es : KeyNumbers). number_in es key) same
+number-none (e ∷ es) self key same none = absurd cc
+
+pub none-changed : (numbers self : KeyNumbers) (key : Key) → numbers ≡ self → length numbers ≡ 0 → IsChangedIn key None self self
+unfolding IsChangedIn
+none-changed numbers self key same none q = by_test (is_same_key key q) (number_in self q) (sym (number-none numbers self q same none))
+  where
+    by_test : (b : Bool) (o : Option ℕ) → o ≡ None → o ≡ cond b None o
+    by_test true o h = h
+    by_test false o h = refl
 
 pub changed-in : (pairs : (p q : Pair) → Decides (is_same_pair p q) (p ≡ q)) (k : Key) (w : Option ℕ) (old new self : KeyNumbers) → old ≡ self
     → ((q : Key) → lookup (key_eq q) new ≡ cond (key_eq k q) w (lookup (key_eq q) old)) → IsChangedIn k w self new

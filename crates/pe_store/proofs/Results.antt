@@ -5,10 +5,6 @@ pub on-err : {T E P : Type 0} (r : Result T E) → P → OnErr r P
 on-err (Ok x) p = tt
 on-err (Err e) p = p
 
-pub on-ok : {T E P : Type 0} (r : Result T E) → P → OnOk r P
-on-ok (Ok x) p = p
-on-ok (Err e) p = tt
-
 pub when-ok : {T E P : Type 0} (r : Result T E) → is_err r ≡ false → OnOk r P → P
 when-ok (Ok x) h p = p
 when-ok (Err e) h p = absurd (cc h)

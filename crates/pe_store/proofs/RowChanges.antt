@@ -3,7 +3,7 @@ use Rattle.std.proofs.Common.{◌≡◌, ℕ, ◌+◌, ◌<◌, Bool, true, fals
 use Rattle.std.specs.Bool.{Decides}
 use Rattle.std.specs.List.{find, AllByRecursion}
 use Rattle.std.specs.List.Sorted.{IsStrictlySortedBy}
-use Rattle.std.specs.Map.{keys_of, values_of, remove_entry}
+use Rattle.std.specs.Map.{keys_of, values_of, remove_entry, set_value}
 use Rattle.std.specs.BTreeMap.{is_at, insert_entry}
 use Rattle.std.specs.Ordering.{nat_cmp, ordering_then}
 use Rattle.std.specs.declared.cmp.Ordering.TheVariants.{Less, Greater}
@@ -19,7 +19,7 @@ use Rattle.pe_store.specs.Pairs.{Pair, is_same_pair}
 use Rattle.pe_store.specs.Places.{place_cmp, is_same_place, has_ending, has_life, is_moment_of, is_page_of, PutsEnd, DropsEnd, ChangesEnd, AreEndings, PlacedEntries, row_at, IsNumbered, IsRows, HasRow}
 use Rattle.pe_store.proofs.Endings.{ended-changed}
 use Rattle.pe_store.proofs.Numbered.{place-total, place-exact, place-itself, place-parts, IsPlaceOf, place-known, place-fresh, pair-fresh, changed}
-use Rattle.pe_store.proofs.Sorted.{put_sorted, all-rows, Agrees, find-agrees, remove-agrees, insert-fresh, insert-there}
+use Rattle.pe_store.proofs.Sorted.{put_sorted, all-rows, Agrees, find-agrees, remove-agrees, insert-fresh, set-agrees}
 
 put-is : (n : Entry) (es : List Entry) → put_entry n es ≡ put_sorted (is_of (pair_of n)) (λ (e : Entry). nat_lt (feature_number n.feature) (feature_number e.feature)) n es
 unfolding put_entry
@@ -265,9 +265,9 @@ module _ (pairs : (p q : Pair) → Decides (is_same_pair p q) (p ≡ q)) (rows :
     same-feature : p.feature ≡ feature_number new.feature
     same-feature = (is.numbered.own p e there).0 ∙ ap (λ (q : Pair). feature_number q.0) same
 
-    pub list-replaced : values_of (insert_entry place_cmp rows p new) ≡ put_entry new (values_of rows)
+    pub list-replaced : values_of (set_value (is_at (place_cmp p)) rows new) ≡ put_entry new (values_of rows)
     list-replaced =
-        insert-there place-total p (is_of (pair_of new)) (λ (x : Entry). nat_lt (feature_number new.feature) (feature_number x.feature)) new rows e is.ordered
+        set-agrees place-total p (is_of (pair_of new)) (λ (x : Entry). nat_lt (feature_number new.feature) (feature_number x.feature)) new rows e is.ordered
         (agrees p (pair_of new) same-place)
         (all-rows place-total (λ (r : Place × Entry). place_cmp p r.0 ≡ Greater → nat_lt (feature_number new.feature) (feature_number r.1.feature) ≡ false) rows is.ordered
         (λ k x h. λ g. low-is (feature_number new.feature) (feature_number x.feature) p.feature k.feature p.serial k.serial same-feature (is.numbered.own k x h).0 g))

@@ -105,25 +105,3 @@ module _ {K X : Type 0} {cmp : K → K → Ordering} (total : IsTotalOrder cmp) 
               → values_of (match_ordering (cond b Less Greater) ((p, n) ∷ r ∷ es) ((r.0, n) ∷ es) (r ∷ insert_entry cmp es p n)) ≡ cond b (n ∷ r.1 ∷ values_of es) (r.1 ∷ put_sorted t above n (values_of es))
           by_test true rest = refl
           by_test false rest = ap (λ xs. r.1 ∷ xs) rest
-
-      -- the same of an insertion at a key that is there
-      pub insert-there : (es : List (K × X)) (x : X) → IsStrictlySortedBy cmp (keys_of es) → Agrees es → AllByRecursion (λ (r : K × X). cmp p r.0 ≡ Greater → above r.1 ≡ false) es
-          → lookup (is_at (cmp p)) es ≡ Some x → values_of (insert_entry cmp es p n) ≡ put_sorted t above n (values_of es)
-      insert-there [] x s h low there = cc
-      insert-there (r ∷ es) x s h low there = by_case (cmp p r.0) refl (insert-there es x (sorted_tail cmp r.0 (keys_of es) s) h.1 low.1)
-        where
-          past : is_at (cmp p) r.0 ≡ false → lookup (is_at (cmp p)) es ≡ Some x
-          past apart = sym (ap (λ b. cond b (Some r.1) (lookup (is_at (cmp p)) es)) apart) ∙ there
-
-          by_case : (o : Ordering) → cmp p r.0 ≡ o → (lookup (is_at (cmp p)) es ≡ Some x → values_of (insert_entry cmp es p n) ≡ put_sorted t above n (values_of es))
-              → values_of (match_ordering o ((p, n) ∷ r ∷ es) ((r.0, n) ∷ es) (r ∷ insert_entry cmp es p n)) ≡ cond (t r.1) (n ∷ values_of es) (cond (above r.1) (n ∷ r.1 ∷ values_of es) (r.1 ∷ put_sorted t above n (values_of es)))
-          by_case Equal is rest = let yes : t r.1 ≡ true = sym h.0 ∙ ap is_eq is in rw yes refl
-          by_case Greater is rest =
-              let apart : is_at (cmp p) r.0 ≡ false = ap is_eq is in
-              let other : t r.1 ≡ false = sym h.0 ∙ apart in
-              let behind : above r.1 ≡ false = low.0 is in
-              rw (other, behind) (ap (λ xs. r.1 ∷ xs) (rest (past apart)))
-          by_case Less is rest =
-              let greater : cmp p r.0 ≡ Greater = below r es x s (past (ap is_eq is)) in
-              let both : ◌≡◌ {A = Ordering} Less Greater = sym is ∙ greater in
-              absurd cc

@@ -39,6 +39,10 @@ impl Group {
         ensures { result ≡ number_in self.now key.now }
     {
         same_pairs_are_one();
+        // Where no key has a number none is hashed.
+        if self.map.is_empty() {
+            return None;
+        }
         self.map.get(key).copied()
     }
 
@@ -57,6 +61,9 @@ impl Group {
         ensures { IsChangedIn key.now None self.old self.new }
     {
         same_pairs_are_one();
+        if self.map.is_empty() {
+            return;
+        }
         self.map.swap_remove(key);
     }
 }

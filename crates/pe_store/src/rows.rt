@@ -5,19 +5,20 @@ ghost use Rattle.std.specs.List.Sorted.{IsStrictlySortedBy};
 ghost use Rattle.std.specs.Map.{keys_of, values_of};
 ghost use Rattle.std.specs.Option.{option_copied};
 ghost use Rattle.pe_store.specs.Due.{IsDue, IsFirstEnd};
-ghost use Rattle.pe_store.specs.Entries.{pair_of, entry_of, put_entry, without, IsOnePerPair};
+ghost use Rattle.pe_store.specs.Entries.{pair_of, entry_of, put_entry, stored, without, IsOnePerPair};
 ghost use Rattle.pe_store.specs.Pages.{pairs_of_page};
+ghost use Rattle.pe_store.specs.Pairs.{Pair};
 ghost use Rattle.pe_store.specs.Numbers.{number_of, IsChangedFor};
 ghost use Rattle.pe_store.specs.declared.entry.Entry.{Entry};
 ghost use Rattle.pe_store.specs.declared.place.Place.{Place};
 ghost use Rattle.pe_store.specs.Places.{row_at, place_cmp, HasRow, is_moment_of, is_page_of, PutsEnd, DropsEnd, ChangesEnd};
 
 use crate::entry::Entry;
-use crate::key::Key;
+use crate::key::{Key, Life};
 use crate::law::same_pairs_are_one;
 use crate::numbers::PairNumbers;
 use crate::place::{Ending, Endings, Place, drop_end, ends_alike, put_end};
-use pe_base::DocNo;
+use pe_base::{DocNo, State};
 use pe_features::Feature;
 use std::alloc::{AllocError, Global};
 use std::collections::BTreeMap;
@@ -85,23 +86,39 @@ fn forget_all(serials: &mut PairNumbers, endings: &mut Endings, entry: Entry, pl
     forget(serials, endings, &entry, place);
 }
 
-// Notes down what ends the entry at a place in the place of what ended the one before it.
-fn change_end(
-    endings: &mut Endings,
-    old: &Entry,
-    entry: &Entry,
-    place: Place,
-) -> Result<(), AllocError>
-    ensures moments { OnOk result (ChangesEnd is_moment_of old.now.life entry.now.life place endings.old.moments.keys endings.new.moments.keys) }
-    ensures pages { OnOk result (ChangesEnd is_page_of old.now.life entry.now.life place endings.old.pages.keys endings.new.pages.keys) }
+// Notes down what ends the entry at a place, whose life was another.
+fn change_end(endings: &mut Endings, old: &Life, new: &Life, place: Place) -> Result<(), AllocError>
+    ensures moments { OnOk result (ChangesEnd is_moment_of old.now new.now place endings.old.moments.keys endings.new.moments.keys) }
+    ensures pages { OnOk result (ChangesEnd is_page_of old.now new.now place endings.old.pages.keys endings.new.pages.keys) }
     ensures moments_kept { OnErr result (endings.new.moments.keys ≡ endings.old.moments.keys) }
     ensures pages_kept { OnErr result (endings.new.pages.keys ≡ endings.old.pages.keys) }
 {
-    put_end(endings, entry.life, place)?;
-    if !ends_alike(old.life, entry.life) {
-        drop_end(endings, old.life, place);
+    put_end(endings, *new, place)?;
+    if !ends_alike(*old, *new) {
+        drop_end(endings, *old, place);
     }
     Ok(())
+}
+
+// The entry that a setting of a pair makes.
+fn new_entry(feature: Feature, key: &Key, state: State, life: Life) -> Result<Entry, AllocError>
+    ensures { IfOk result (λ e. e ≡ stored (feature, key.now) state life) }
+{
+    let key = key.copy()?;
+    Ok(Entry {
+        feature,
+        key,
+        state,
+        life,
+    })
+}
+
+// Gives an entry another state and life.
+fn write(entry: &mut Entry, state: State, life: Life)
+    ensures { entry.new ≡ record entry.old { state = state; life = life } }
+{
+    entry.state = state;
+    entry.life = life;
 }
 
 // Puts the pair of an entry, if there is one, behind the others. `AllocError` where memory wants.
@@ -218,25 +235,19 @@ impl Rows {
         }
     }
 
-    // Puts an entry in the place of that of its pair.
-    fn replace(&mut self, place: Place, entry: Entry) -> Result<(), AllocError>
-        requires there { HasRow self.old place (pair_of entry) }
-        ensures list { OnOk result (values_of self.new ≡ put_entry entry (values_of self.old)) }
+    // Sets the state and the life of the entry at a place.
+    fn change(&mut self, place: Place, state: State, life: Life) -> Result<(), AllocError>
+        ensures list { (q : Pair) → HasRow self.old place q → OnOk result (values_of self.new ≡ put_entry (stored q state life) (values_of self.old)) }
         ensures len { OnOk result (length self.new ≡ length self.old) }
         ensures err { OnErr result (self.new ≡ self.old) }
     {
         same_pairs_are_one();
-        let Some(old) = self.map.get(&place) else {
+        let Some(entry) = self.map.get_mut(&place) else {
             return Err(AllocError);
         };
-        change_end(&mut self.endings, old, &entry, place)?;
-        match put_row(&mut self.map, place, entry) {
-            Ok(()) => Ok(()),
-            Err(entry) => {
-                let_go(Some(entry));
-                Err(AllocError)
-            }
-        }
+        change_end(&mut self.endings, &entry.life, &life, place)?;
+        write(entry, state, life);
+        Ok(())
     }
 
     // The first ending by a moment up to this one.
@@ -298,16 +309,24 @@ impl Rows {
         let _ = &self.map;
     }
 
-    // Puts an entry in the place of that of its pair, which is given, else behind those of its feature.
-    pub(crate) fn put(&mut self, place: Option<Place>, entry: Entry) -> Result<(), AllocError>
-        requires place { MatchOption place (entry_of (values_of self.old) (pair_of entry) ≡ None) (λ p. HasRow self.old p (pair_of entry)) }
-        ensures list { OnOk result (values_of self.new ≡ put_entry entry (values_of self.old)) }
+    // Sets what is stored for a pair: in its entry, where the place of that is given, else in a new one
+    // behind those of its feature.
+    pub(crate) fn put(
+        &mut self,
+        place: Option<Place>,
+        feature: Feature,
+        key: &Key,
+        state: State,
+        life: Life,
+    ) -> Result<(), AllocError>
+        requires place { MatchOption place (entry_of (values_of self.old) (feature, key.now) ≡ None) (λ p. HasRow self.old p (feature, key.now)) }
+        ensures list { OnOk result (values_of self.new ≡ put_entry (stored (feature, key.now) state life) (values_of self.old)) }
         ensures len { OnOk result (length self.new ≡ (if is_some place then length self.old else length self.old + 1)) }
         ensures err { OnErr result (self.new ≡ self.old) }
     {
         match place {
-            Some(place) => self.replace(place, entry),
-            None => self.insert(entry),
+            Some(place) => self.change(place, state, life),
+            None => self.insert(new_entry(feature, key, state, life)?),
         }
     }
 

@@ -126,10 +126,7 @@ impl Store {
         if place.is_none() && self.rows.len() == STORE_LIMIT {
             return Err(StoreFault::Full);
         }
-        let Ok(entry) = new_entry(feature, &key, state, life) else {
-            return Err(StoreFault::Memory);
-        };
-        if self.rows.put(place, entry).is_err() {
+        if self.rows.put(place, feature, &key, state, life).is_err() {
             return Err(StoreFault::Memory);
         }
         self.dismissals.remove(feature, &key);
@@ -240,19 +237,6 @@ impl Store {
             self.clear(*feature, key);
         }
     }
-}
-
-// The entry that a setting of a pair makes.
-fn new_entry(feature: Feature, key: &Key, state: State, life: Life) -> Result<Entry, AllocError>
-    ensures { IfOk result (λ e. e ≡ stored (feature, key.now) state life) }
-{
-    let key = key.copy()?;
-    Ok(Entry {
-        feature,
-        key,
-        state,
-        life,
-    })
 }
 
 // Whether a dismissal of a pair with this entry counts.

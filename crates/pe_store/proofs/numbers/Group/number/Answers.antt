@@ -1,7 +1,10 @@
 use Rattle.std.proofs.Common.{◌∙◌, ap}
 use Rattle.pe_store.specs.Numbers.{KeyNumbers, number_in}
-use Rattle.pe_store.proofs.NumberChanges.{number-is}
+use Rattle.pe_store.proofs.NumberChanges.{number-is, number-none}
 use Rattle.pe_store.proofs.numbers.Group.number.Goals as goal
+
+pub returns-then-is_empty : goal.returns-then-is_empty
+returns-then-is_empty c = number-none c.self.inside.map.entries c.args.self.now c.args.key.now c.self.view_is (c.is_empty.ensures.0 c.if-is_empty.true)
 
 pub returns : goal.returns
 returns c =

@@ -1,9 +1,9 @@
-use Rattle.std.proofs.Common.{◌≡◌, ℕ, ◌+◌, ◌<◌, ◌≤◌, ◌∙◌, Bool, true, false, not, sym, ap, subst, cond, List, length, Option, Some, None, is_some, MatchOption, IfSome, IfNone, arith}
+use Rattle.std.proofs.Common.{◌≡◌, ℕ, ◌+◌, ◌<◌, ◌≤◌, ◌∙◌, Bool, true, false, not, sym, ap, cond, List, length, Option, Some, None, is_some, MatchOption, IfSome, IfNone, arith}
 use Rattle.std.specs.Map.{values_of}
 use Rattle.pe_base.specs.declared.limits.TheConstants.{STORE_LIMIT}
 use Rattle.pe_store.specs.declared.entry.Entry.{Entry}
 use Rattle.pe_store.specs.declared.place.Place.{Place}
-use Rattle.pe_store.specs.Entries.{StoreValue, dismissals_of, pair_of, entry_of, put_entry, stored}
+use Rattle.pe_store.specs.Entries.{StoreValue, dismissals_of, entry_of, stored}
 use Rattle.pe_store.specs.Pairs.{Pair, is_same_pair}
 use Rattle.pe_store.specs.Places.{PlacedEntries, HasRow}
 use Rattle.pe_store.proofs.Lists.{found-put, counts-anew}
@@ -12,10 +12,10 @@ use Rattle.pe_store.proofs.Results.{when-ok}
 use Rattle.pe_store.proofs.store.Store.set.Goals as goal
 use Rattle.pe_store.proofs.store.Store.set.Goals.{else-is_none-via-then-is_none+else-len-eq-STORE_LIMIT, else-is_none-via-else-is_none}
 
-is-place : (rows : PlacedEntries) (q r : Pair) (o : Option Place) → r ≡ q → IfNone o (entry_of (values_of rows) q ≡ None) → IfSome o (λ p. HasRow rows p q)
-    → MatchOption o (entry_of (values_of rows) r ≡ None) (λ p. HasRow rows p r)
-is-place rows q r None same none some = ap (entry_of (values_of rows)) same ∙ none
-is-place rows q r (Some p) same none some = subst (λ (x : Pair). HasRow rows p x) (sym same) some
+is-place : (rows : PlacedEntries) (q : Pair) (o : Option Place) → IfNone o (entry_of (values_of rows) q ≡ None) → IfSome o (λ p. HasRow rows p q)
+    → MatchOption o (entry_of (values_of rows) q ≡ None) (λ p. HasRow rows p q)
+is-place rows q None none some = none
+is-place rows q (Some p) none some = some
 
 one-more : (there : Bool) (old new limit : ℕ) → new ≡ cond there old (old + 1) → old < limit → new ≤ limit
 one-more true old new limit h lt = omega arith
@@ -28,7 +28,7 @@ as-many false old new limit is h le = absurd cc
 pub put-requires : goal.put-requires
 put-requires c = record {
   place =
-      is-place c.self.inside.rows (c.args.feature, c.args.key) (pair_of c.in-Ok.entry) c.place_of-place.result (ap pair_of c.in-Ok.ensures) c.place_of-place.ensures.none c.place_of-place.ensures.some;
+      is-place c.self.inside.rows (c.args.feature, c.args.key) c.place_of-place.result c.place_of-place.ensures.none c.place_of-place.ensures.some;
 }
 
 pub invariant_of-self-2 : goal.invariant_of-self-2
@@ -50,7 +50,6 @@ returns-clause-found c pair =
     let n : Entry = stored q c.args.state c.args.life in
     let list = when-ok c.put.result (sym c.is_err.ensures.value ∙ c.if-is_err.false) c.put.ensures.list in
     ap (λ (es : List Entry). entry_of es pair) list
-    ∙ ap (λ (e : Entry). entry_of (put_entry e (values_of c.self.inside.rows)) pair) c.in-Ok.ensures
     ∙ found-put c.same_pairs_are_one.ensures n pair (values_of c.self.inside.rows)
     ∙ ap (λ (v : StoreValue). cond (is_same_pair q pair) (Some n) (entry_of v.entries pair)) c.self.view_is
 
