@@ -15,9 +15,6 @@ same_handle-Decides a b =
     let d = Decides-and (a.slot == b.slot) (a.generation == b.generation) (Decides-eqb a.slot b.slot) (Decides-eqb a.generation b.generation) in
     (λ e. let p = d.0 e in λ i. record { slot = p.0 i; generation = p.1 i }, λ e. d.1 (ap (λ h. h.slot) e, ap (λ h. h.generation) e))
 
-pub same_self : (a : Handle) → same_handle a a ≡ true
-same_self a = (same_handle-Decides a a).1 refl
-
 -- what stands at a place of a list with one more
 get-more : (ms : List Made) (m : Made) (n : ℕ) (x : Made) → slice_get ms n ≡ Some x → slice_get (ms ++ m ∷ []) n ≡ Some x
 get-more [] m n x h = cc

@@ -41,9 +41,6 @@ attributes-settled T x y is = record { origin = is.origin; sandboxed = is.sandbo
 pub turned : (a b : ℕ) → (a == b) ≡ (b == a)
 turned a b = grind (arith, nat_tests)
 
-both-true : (b c : Bool) → b ≡ true → c ≡ true → (b && c) ≡ true
-both-true b c p q = rw (p, q) refl
-
 module _ (laws : HistoryLaws) where
   -- ---- a history action that is allowed
 

@@ -3,9 +3,7 @@ use Rattle.std.proofs.Common.{◌≡◌, ℕ, ◌≤◌, [], ◌∷◌, Ok, sym,
 use Rattle.std.specs.Global.{Vec}
 use Rattle.std.proofs.lemmas.Bool.Decides.{nat_tests}
 use Rattle.pe_events.specs.declared.answer.Answer.{Answer}
-use Rattle.pe_events.specs.declared.answer.Answer.TheVariants as answer
 use Rattle.pe_events.specs.declared.answer.Change.{Change}
-use Rattle.pe_events.specs.declared.cause.Cause.{Cause}
 use Rattle.pe_events.specs.Timed.{Timed}
 use Rattle.pe_rules.specs.History.{StepAnswer, Step, RepliedHistory, History, clock}
 use Rattle.pe_rules.specs.Changes.{changes_after}
@@ -17,7 +15,7 @@ use Rattle.pe_engine.specs.Objects.{handle_at}
 use Rattle.pe_engine.specs.declared.replies.Replies.{Replies}
 use Rattle.pe_engine.specs.declared.row.Row.{Row}
 use Rattle.pe_engine.specs.Laws.{EngineLaws}
-use Rattle.pe_engine.specs.Replying.{IsAcceptance, IsRefusal, IsReplied}
+use Rattle.pe_engine.specs.Replying.{IsAcceptance, IsReplied}
 use Rattle.pe_engine.specs.Rows.{blocks}
 use Rattle.pe_laws.specs.StatusesLaws.{Each}
 use Rattle.pe_engine.specs.Tree.{IsTree}
@@ -29,9 +27,6 @@ use Rattle.pe_engine.proofs.Passed.{BringsChanges, LeavesStore}
 
 pub reply-accepted : (old new : EngineValue) (H : History) (e : Timed) (reply : Replies) → IsReplied old new H e (Ok reply) → IsReply old new H e reply
 reply-accepted old new H e reply is = subst (IsReplyBy old new H e reply) (sym is.0) is.1
-
-pub reply-refused : (old new : EngineValue) (H : History) (e : Timed) (why : Cause) (reply : Replies) → IsRefusal old new H e why → reply.answer ≡ answer.Refused why → reply.before.items ≡ [] → reply.after.items ≡ [] → IsReply old new H e reply
-reply-refused old new H e why reply is says before after = subst (IsReplyBy old new H e reply) (sym is.first) (record { says = says; before = before; after = after; kept = is.kept })
 
 -- at the clock the store stands for the steps that were accepted before already
 pub still : (e w : EngineValue) (H : History) (x : Timed) (said : Answer) (now : ℕ) → StandsFor e H → IsAcceptance e w H x said → now ≡ e.clock → IsStore (replied e.duration H) now w.store

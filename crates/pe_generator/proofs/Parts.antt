@@ -37,10 +37,6 @@ parts-whole text h =
 pub count-more : (test : List ℕ → Bool) (text rest line : List ℕ) → parts_of text ≡ line ∷ parts_of rest → count_lines test text ≡ (if test line then 1 else 0) + count_lines test rest
 count-more test text rest line e = ap (count_by test) e ∙ sum_by-cons (λ part. if test part then 1 else 0) line (parts_of rest)
 
--- the last line
-pub count-last : (test : List ℕ → Bool) (text line : List ℕ) → parts_of text ≡ line ∷ [] → count_lines test text ≡ (if test line then 1 else 0)
-count-last test text line e = ap (count_by test) e ∙ sum_by-cons (λ part. if test part then 1 else 0) line [] ∙ omega arith
-
 -- it rises by one at most
 pub at-most-one : (b : Bool) → (if b then 1 else 0) ≤ 1
 at-most-one true = omega arith

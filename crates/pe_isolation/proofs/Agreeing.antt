@@ -74,10 +74,6 @@ own-cond : (top : ℕ) (b : Bool) (o p : Option Message) → own top (cond b o p
 own-cond top true o p = refl
 own-cond top false o p = refl
 
-is-own-cond : (top : ℕ) (b : Bool) (o p : Option Message) → is_own top (cond b o p) ≡ cond b (is_own top o) (is_own top p)
-is-own-cond top true o p = refl
-is-own-cond top false o p = refl
-
 -- ---- what the same step does
 
 pub message-by-alike : {T U : RepliedHistory} → Alike T U → (e : Event) → message_by e T ≡ message_by e U

@@ -3,7 +3,7 @@ use Rattle.std.proofs.Common.{◌≡◌, ℕ, ◌+◌, Bool, false, List, [], �
 use Rattle.std.proofs.lemmas.List.{map-append}
 use Rattle.std.specs.Prelude.{◌||◌}
 use Rattle.pe_lines.specs.declared.cutter.Cut.{Cut}
-use Rattle.pe_lines.specs.Lines.{lines, ended_lines, lines_or_too_long, ended_lines_or_too_long}
+use Rattle.pe_lines.specs.Lines.{lines, lines_or_too_long, ended_lines_or_too_long}
 use Rattle.pe_lines.specs.Rests.{Rest}
 use Rattle.pe_lines.specs.Cutting.{Cuts, TakesLine, TakesLast, HasNoLine, IsNext, line_of_cut}
 use Rattle.pe_output.specs.OutputText.{reading_or_too_long, output_text, ended_text, refuses_some, line_text, text_from, refuses_from, readings}
@@ -39,10 +39,6 @@ Cuts-ended bytes done rest h none =
 told-nil : lines_or_too_long [] ≡ []
 unfolding lines_or_too_long lines
 told-nil = refl
-
-ended-nil : ended_lines_or_too_long [] ≡ []
-unfolding ended_lines_or_too_long ended_lines
-ended-nil = refl
 
 -- nothing is left
 pub Cuts-all : (bytes : List ℕ) (done : List (Option (List ℕ))) → Cuts bytes done [] → lines_or_too_long bytes ≡ done
