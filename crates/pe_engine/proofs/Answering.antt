@@ -21,6 +21,11 @@ pub answer-for : (old : EngineValue) (H : History) (e : Timed) (why : Cause) (r 
 answer-for old H e why (Ok said) is first = absurd is
 answer-for old H e why (Err x) is first = subst (λ y. IsAnswer old old H e (Err y)) (sym is) (record { first = first; kept = refl })
 
+-- want of memory
+pub answer-memory : (old new : EngineValue) (H : History) (e : Timed) (r : Result Answer Refusal) → IsErrAnd r (λ x. x ≡ refusal.Memory) → IsAnswer old new H e r
+answer-memory old new H e (Ok said) is = absurd is
+answer-memory old new H e (Err x) is = subst (λ y. IsAnswer old new H e (Err y)) (sym is) tt
+
 -- the same of a reply
 pub replied-for : (old : EngineValue) (H : History) (e : Timed) (why : Cause) (r : Result Replies Refusal) → IsErrAnd r (λ x. x ≡ refusal.For why)
     → cause_of (steps_of old H) e.time e.event ≡ Some why → IsReplied old old H e r
