@@ -1,7 +1,6 @@
 -- URLs of the usual form, whose place is read without the whole parser: what stands in their parts.
 -- URL Standard, section 4.4 ("basic URL parser"). Which URLs count as usual is this project's own.
-use Rattle.std.specs.Prelude.{◌≡◌, ℕ, ◌<◌, Bool, true, false, ◌||◌, ◌==◌, List, [], ◌∷◌, ◌++◌, length, All, Option, Some, None, unwrap_or, Ok, codes}
-use Rattle.std.specs.Result.{result_map_both}
+use Rattle.std.specs.Prelude.{◌≡◌, ℕ, ◌<◌, Bool, true, false, ◌||◌, ◌==◌, List, [], ◌∷◌, ◌++◌, length, All, Option, Some, None, unwrap_or, Ok}
 use Rattle.std.specs.Char.{is_ascii_lowercase, is_ascii_digit}
 use Rattle.url.specs.Ascii.{colon, dot, hyphen, number_sign, question_mark, slash}
 use Rattle.url.specs.Ipv4.{ends_in_a_number}

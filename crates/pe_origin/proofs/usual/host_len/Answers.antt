@@ -1,7 +1,6 @@
-use Rattle.std.proofs.Common.{rules, refl, take_all, arith}
+use Rattle.std.proofs.Common.{◌≡◌, true, All, sym, subst, rules, take_all}
 use Rattle.url.proofs.InputLemmas.{All-take_from_reads}
 use Rattle.pe_origin.specs.Usual.{is_host_byte}
-use Rattle.std.proofs.Common.{◌≡◌, true, subst, All, sym}
 use Rattle.pe_origin.proofs.usual.host_len.Goals as goal
 
 pub returns-in-Some-clause-bytes : goal.returns-in-Some-clause-bytes
