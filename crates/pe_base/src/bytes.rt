@@ -1,5 +1,5 @@
 //! Owned bytes.
-ghost use Rattle.std.specs.Prelude.{◌≡◌, ◌↔◌, ℕ, IfOk, IsTrue, refl, Some, cond};
+ghost use Rattle.std.specs.Prelude.{◌≡◌, ◌↔◌, ◌*◌, ◌≤◌, ℕ, IfOk, IsTrue, refl, Some, cond, length};
 ghost use Rattle.std.proofs.Common.{rules};
 ghost use Rattle.std.specs.Cmp.{partial_equiv_from_equiv};
 ghost use Rattle.std.specs.Cmp.Lexicographic.{pointwise, slice_cmp, nat_list_eq_equiv, nat_list_cmp_total, texts_ties, texts_po};
@@ -62,13 +62,33 @@ impl Bytes {
     }
 }
 
+// Whether two texts of one length are the same, where their first N and their last N bytes cover them. It has
+// no loop over the bytes and no call, which would cost more than the bytes of most hosts.
+fn same_ends<const N: usize>(a: &[u8], b: &[u8]) -> bool
+    requires long { N ≤ length a.now }
+    requires covered { length a.now ≤ 2 * N }
+    requires same { length b.now ≡ length a.now }
+    ensures { result ≡ bytes_eq a.now b.now }
+{
+    let (first, last) = (a.first_chunk::<N>().unwrap(), a.last_chunk::<N>().unwrap());
+    first == b.first_chunk::<N>().unwrap() && last == b.last_chunk::<N>().unwrap()
+}
+
 impl PartialEq for Bytes {
     ghost eq = { bytes_eq };
 
     ghost laws = { partial_equiv_from_equiv nat_list_eq_equiv };
 
     fn eq(&self, other: &Bytes) -> bool {
-        self.as_slice() == other.as_slice()
+        let (a, b) = (self.as_slice(), other.as_slice());
+        if a.len() != b.len() {
+            return false;
+        }
+        match a.len() {
+            4..=8 => same_ends::<4>(a, b),
+            9..=16 => same_ends::<8>(a, b),
+            _ => a == b,
+        }
     }
 }
 
