@@ -1,6 +1,6 @@
 -- Where a live frame stands.
-use Rattle.std.proofs.Common.{◌≡◌, ℕ, List, [], Option, None, Some, is_some, IsSome, refl, sym, ap, ◌∙◌, true≢false}
-use Rattle.std.specs.Option.{option_map}
+use Rattle.std.proofs.Common.{◌≡◌, ℕ, List, [], Option, None, Some, is_some, IsSome, Bor, refl, sym, ap, ◌∙◌, true≢false}
+use Rattle.std.specs.Option.{option_map, option_copied}
 use Rattle.pe_arena.specs.declared.handle.Handle.{Handle}
 use Rattle.pe_arena.specs.Slots.{Slots, live}
 use Rattle.pe_frames.specs.declared.row.Row.{Row}
@@ -8,7 +8,7 @@ use Rattle.pe_frames.specs.declared.row.FramePosition.{FramePosition}
 use Rattle.pe_frames.specs.declared.node.Node.{Node}
 use Rattle.pe_frames.specs.Forest.{Entry, entry_of, node_in}
 use Rattle.pe_frames.specs.Neighbours.{links_in}
-use Rattle.pe_frames.specs.Kept.{kept, entries_in, standing_in, HasLinks, IsForest}
+use Rattle.pe_frames.specs.Kept.{kept, entries_in, position_of, standing_in, HasLinks, IsForest}
 use Rattle.pe_frames.proofs.Nodes.{found-live}
 use Rattle.pe_frames.proofs.Lemmas.{some_same}
 
@@ -17,12 +17,14 @@ pub some-unless : {A : Type 0} (o : Option A) → (o ≡ None → ⊥) → IsSom
 some-unless None not = absurd (not refl)
 some-unless (Some x) not = refl
 
-module _ {D : Type 0} where
-  -- where the frame of a row stands
-  abbrev pub standing_row : Row D → FramePosition
-  standing_row r = record { parent = r.node.parent; top = r.node.top; depth = r.node.depth; links = r.links }
+-- a row is lent, where there is an entry and both say the same
+pub lent : {T X Y : Type 0} (r : Option (Bor T)) (x : Option X) (of_row : T → Y) (of_entry : X → Y) → IsSome x → option_map of_row (option_copied r) ≡ option_map of_entry x → IsSome r
+lent None None of_row of_entry l q = absurd (true≢false (sym l))
+lent None (Some e) of_row of_entry l q = absurd (true≢false (sym (ap is_some q)))
+lent (Some b) x of_row of_entry l q = refl
 
-  by_node : (es : List (Entry D)) (h : Handle) (o : Option (Row D)) (e : Option (Entry D)) → ((r : Row D) → o ≡ Some r → HasLinks es h r) → option_map (λ r. r.node) o ≡ option_map node_in e → option_map standing_row o ≡ option_map (standing_in es h) e
+module _ {D : Type 0} where
+  by_node : (es : List (Entry D)) (h : Handle) (o : Option (Row D)) (e : Option (Entry D)) → ((r : Row D) → o ≡ Some r → HasLinks es h r) → option_map (λ r. r.node) o ≡ option_map node_in e → option_map position_of o ≡ option_map (standing_in es h) e
   by_node es h None None links q = refl
   by_node es h None (Some e) links q = absurd (true≢false (sym (ap is_some q)))
   by_node es h (Some r) None links q = absurd (true≢false (ap is_some q))
@@ -32,7 +34,7 @@ module _ {D : Type 0} where
       ∙ ap (λ (n : Node D). Some (record { parent = n.parent; top = n.top; depth = n.depth; links = links_in es h n.parent })) same
 
   -- where a live frame stands, by its row
-  pub standing-live : (s : Slots (Row D)) (order : List Handle) (pages : ℕ) → IsForest s order pages → (h : Handle) → option_map standing_row (live s h) ≡ option_map (standing_in (entries_in (kept s order [])) h) (entry_of (entries_in (kept s order [])) h)
+  pub standing-live : (s : Slots (Row D)) (order : List Handle) (pages : ℕ) → IsForest s order pages → (h : Handle) → option_map position_of (live s h) ≡ option_map (standing_in (entries_in (kept s order [])) h) (entry_of (entries_in (kept s order [])) h)
   standing-live s order pages is h = by_node (entries_in (kept s order [])) h (live s h) (entry_of (entries_in (kept s order [])) h) (λ r e. is.linked h r e) (found-live s order h is.listed is.nodes)
 
   -- nothing stands at a handle of no frame

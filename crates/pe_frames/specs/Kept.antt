@@ -66,6 +66,10 @@ module _ {D : Type 0} where
   abbrev pub HasLinks : List (Entry D) → Handle → Row D → Type 0
   HasLinks es h r = r.links ≡ links_in es h r.node.parent
 
+  -- where the frame of a row stands, as the row has it
+  abbrev pub position_of : Row D → FramePosition
+  position_of r = record { parent = r.node.parent; top = r.node.top; depth = r.node.depth; links = r.links }
+
   -- where the frame with this handle stands
   abbrev pub standing_in : List (Entry D) → Handle → Entry D → FramePosition
   standing_in es h e = record { parent = parent_of e; top = top_of e; depth = depth_of e; links = links_in es h (parent_of e) }

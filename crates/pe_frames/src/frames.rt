@@ -5,7 +5,7 @@ ghost use Rattle.std.specs.Borrow.{sem};
 ghost use Rattle.pe_frames.specs.Forest.{entry_of, node_of, doc_of, parent_of, top_of, page_count, page_size, mark_of, path_of, depth_of, refusal, embed_fault, opened, IsDead, Gives, StayDead};
 ghost use Rattle.pe_frames.specs.Order.{head_of, closed, navigated, handles_under, docs_under};
 ghost use Rattle.pe_frames.specs.Neighbours.{children_newest_first};
-ghost use Rattle.pe_frames.specs.Kept.{standing_in};
+ghost use Rattle.pe_frames.specs.Kept.{position_of, standing_in};
 
 use crate::node::{NewPosition, Node, Numbered};
 use crate::removal::{renew, shrink_page, sweep, take_all, take_one, unlink};
@@ -179,6 +179,14 @@ impl<D: Numbered> Frames<D> {
             depth: row.node.depth,
             links: row.links,
         })
+    }
+
+    // The row of the frame.
+    pub(crate) fn row(&self, h: Handle) -> &Row<D>
+        requires { IsSome (entry_of self.now.entries h) }
+        ensures { option_map (standing_in self.now.entries h) (entry_of self.now.entries h) ≡ Some (position_of result.now) }
+    {
+        self.rows.get(h).unwrap()
     }
 
     /// Gives the frame another document and removes all frames below it, whose handles are dead then.

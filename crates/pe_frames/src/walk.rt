@@ -1,11 +1,13 @@
 //! The walk over the tree.
 ghost use Rattle.std.specs.Prelude.{◌≡◌, ◌↔◌, ◌∷◌, Some, None, IsSome, IsSomeAnd, IsTrue, IfSome, IfOk, unwrap_or, false};
+ghost use Rattle.std.specs.Option.{option_map};
 ghost use Rattle.pe_frames.specs.Forest.{entry_of, has_handle, is_under, last_of};
 ghost use Rattle.pe_frames.specs.Order.{after, child_handles, next_child_of, handles_under};
+ghost use Rattle.pe_frames.specs.Kept.{position_of, standing_in};
 
 use crate::frames::Frames;
 use crate::node::Numbered;
-use crate::row::names;
+use crate::row::{Row, names};
 use pe_arena::Handle;
 use std::alloc::AllocError;
 
@@ -89,27 +91,29 @@ impl<D: Numbered> Frames<D> {
         ensures value { result ≡ after at (handles_under self.now.entries root) }
     {
         let _ = &self.order;
-        let first = self.standing(at).unwrap().links.first;
-        if first.is_some() {
-            return first;
+        let row = self.row(at);
+        if row.links.first.is_some() {
+            return row.links.first;
         }
-        self.past(root, at)
+        self.past(root, at, row)
     }
 
-    // What stands behind a frame and all below it: the later sibling of the nearest frame on the way
-    // up to the root that has one.
-    fn past(&self, root: Handle, at: Handle) -> Option<Handle>
-        requires { IsSomeAnd (entry_of self.now.entries at) (λ e. IsTrue (is_under root e)) }
+    // What stands behind a frame, which has this row, and all below it: the later sibling of the nearest
+    // frame on the way up to the root that has one.
+    fn past(&self, root: Handle, at: Handle, row: &Row<D>) -> Option<Handle>
+        requires under { IsSomeAnd (entry_of self.now.entries at) (λ e. IsTrue (is_under root e)) }
+        requires row { option_map (standing_in self.now.entries at) (entry_of self.now.entries at) ≡ Some (position_of row.now) }
         ensures { result ≡ after (unwrap_or (last_of (handles_under self.now.entries at)) at) (handles_under self.now.entries root) }
     {
         let _ = &self.order;
         let mut up = at;
+        let mut here = row;
         while up != root {
-            let here = self.standing(up).unwrap();
             if here.links.later.is_some() {
                 return here.links.later;
             }
-            up = here.parent.unwrap();
+            up = here.node.parent.unwrap();
+            here = self.row(up);
         }
         None
     }
