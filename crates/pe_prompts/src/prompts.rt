@@ -44,6 +44,25 @@ impl Model for Prompts {
     ghost invariant = { λ a. IsPrompts a.given a.pages a.documents };
 }
 
+// Puts a prompt into its page, which has none and no room yet. `AllocError` where memory wants.
+// A function of its own: the room is large, and a call pays for the room of its locals.
+#[inline(never)]
+fn push_first(
+    pages: &mut IndexMap<u32, Queue>,
+    alloc: Global,
+    number: PromptNo,
+    prompt: Prompt,
+) -> Result<(), AllocError>
+    ensures ok { OnOk result ((p : ℕ) → queue_of pages.new p ≡ at_page prompt.page ((number, prompt) ∷ []) (queue_of pages.old) p) }
+    ensures err { OnErr result (pages.new.entries ≡ pages.old.entries) }
+{
+    let page = prompt.page.get();
+    let mut queue = Queue::new(alloc);
+    queue.push(number, prompt)?;
+    pages.insert(page, queue)?;
+    Ok(())
+}
+
 // Puts a prompt behind the pending ones of its page. `AllocError` where memory wants.
 fn push_in(
     pages: &mut IndexMap<u32, Queue>,
@@ -57,14 +76,10 @@ fn push_in(
     ensures ok { OnOk result ((p : ℕ) → queue_of pages.new p ≡ at_page prompt.page (queue_of pages.old prompt.page ++ (number, prompt) ∷ []) (queue_of pages.old) p) }
     ensures err { OnErr result (pages.new.entries ≡ pages.old.entries) }
 {
-    let page = prompt.page.get();
-    if let Some(queue) = pages.get_mut(&page) {
-        return queue.push(number, prompt);
+    match pages.get_mut(&prompt.page.get()) {
+        Some(queue) => queue.push(number, prompt),
+        None => push_first(pages, alloc, number, prompt),
     }
-    let mut queue = Queue::new(alloc);
-    queue.push(number, prompt)?;
-    pages.insert(page, queue)?;
-    Ok(())
 }
 
 // Puts a request behind those of a prompt of the page. `AllocError` where memory wants.

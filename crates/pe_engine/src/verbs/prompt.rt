@@ -1,5 +1,5 @@
 //! `request` and `answer`: prompts for a permission.
-ghost use Rattle.std.specs.Prelude.{◌≡◌, ◌+◌, ◌<◌, ◌≤◌, ◌++◌, ◌∷◌, ◌&&◌, [], ℕ, List, nat_le, false, Some, None, IfOk, IfErr, IsSome, IsTrue, OnOk, not, is_some, is_none, length, option_map};
+ghost use Rattle.std.specs.Prelude.{◌≡◌, ◌+◌, ◌<◌, ◌≤◌, ◌++◌, ◌∷◌, ◌&&◌, [], ℕ, List, Option, nat_le, false, Some, None, IfOk, IfErr, IsSome, IsTrue, OnOk, not, is_some, is_none, length, option_map};
 ghost use Rattle.pe_base.specs.declared.limits.TheConstants.{EVENT_LIMIT, PENDING_LIMIT, STORE_LIMIT};
 ghost use Rattle.pe_base.specs.declared.state.State.{State};
 ghost use Rattle.pe_store.specs.declared.key.Life.{Life};
@@ -11,7 +11,7 @@ ghost use Rattle.pe_events.specs.Fitting.{is_fitting, is_life};
 ghost use Rattle.pe_features.specs.Features.{feature_named, key_of};
 ghost use Rattle.pe_frames.specs.Forest.{entry_of};
 ghost use Rattle.pe_prompts.specs.Pending.{pair_of};
-ghost use Rattle.pe_prompts.specs.Queues.{pending, pending_of, prompt_at};
+ghost use Rattle.pe_prompts.specs.Queues.{asked_of, pending, pending_of, prompt_at};
 ghost use Rattle.pe_requests.specs.PromptSteps.{IsAsking, answer_of_asked};
 ghost use Rattle.pe_changes.specs.Parts.{IsStore, IsStatuses, AreGoverned};
 ghost use Rattle.pe_changes.specs.StoreSteps.{IsSet, IsDismissed, IsLapsed};
@@ -69,13 +69,13 @@ struct Decision {
     set: Option<(State, Life)>,
 }
 
-/// What a request makes that joins this prompt, or none.
-fn made_by_request(join: Option<PromptNo>) -> Made
-    ensures { result ≡ made_by_request join }
+/// What a request made that was told this.
+fn made_by_asked(asked: &Asked) -> Made
+    ensures { (number : ℕ) (join : Option ℕ) → asked.now ≡ asked_of number join → result ≡ made_by_request join }
 {
-    match join {
-        Some(_) => Made::Nothing,
-        None => Made::Prompt,
+    match asked {
+        Asked::New(_) => Made::Prompt,
+        Asked::Joined(_) => Made::Nothing,
     }
 }
 
@@ -170,10 +170,11 @@ impl Engine {
     {
         match asking.state {
             State::Prompt => {
-                self.prompts
-                    .pending_of(asking.page, asking.feature, &asking.key)
-                    .is_none()
-                    && self.prompts.pending(asking.page) >= PENDING_LIMIT
+                self.prompts.pending(asking.page) >= PENDING_LIMIT
+                    && self
+                        .prompts
+                        .pending_of(asking.page, asking.feature, &asking.key)
+                        .is_none()
             }
             State::Granted | State::Denied => false,
         }
@@ -187,20 +188,20 @@ impl Engine {
         ensures { IfOk result (HasPrompted self.old self.new now number asking.page (asking.feature, asking.key) asking.asker) }
     {
         engine_laws();
-        let join = self
-            .prompts
-            .pending_of(asking.page, asking.feature, &asking.key);
-        self.note(now, made_by_request(join))?;
-        match self.prompts.request(
+        self.made.reserve(1)?;
+        let Ok(asked) = self.prompts.request(
             number,
             asking.page,
             asking.feature,
             asking.key,
             asking.asker,
-        ) {
-            Ok(asked) => Ok(answer_of_asked(asked)),
-            Err(_) => Err(AllocError),
-        }
+        )
+        else {
+            return Err(AllocError);
+        };
+        self.made.push_reserved(made_by_asked(&asked));
+        self.clock = now;
+        Ok(answer_of_asked(asked))
     }
 
     /// Answers a request that found this state, which is not prompt.

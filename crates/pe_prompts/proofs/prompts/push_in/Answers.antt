@@ -8,5 +8,5 @@ pub returns-in-Some-clause-err : goal.returns-in-Some-clause-err
 returns-in-Some-clause-err c =
     on_err c.push.result (λ same.
     (c.get_mut.follows.holds c.push.new.self).0
-    ∙ ap (set_value (nat_eq c.get-page.result) c.args.pages.now.entries) same
-    ∙ set_value_same (nat_eq c.get-page.result) c.args.pages.now.entries c.in-Some.queue.now (sym c.in-Some.ensures.value)) c.push.ensures.err
+    ∙ ap (set_value (nat_eq c.get.result) c.args.pages.now.entries) same
+    ∙ set_value_same (nat_eq c.get.result) c.args.pages.now.entries c.in-Some.queue.now (sym c.in-Some.ensures.value)) c.push.ensures.err
