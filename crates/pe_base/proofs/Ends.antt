@@ -1,7 +1,6 @@
 -- Texts whose ends cover them are the same where their ends are.
-use Rattle.std.proofs.Common.{◌≡◌, ℕ, ◌-◌, ◌*◌, ◌≤◌, ◌&&◌, ◌++◌, Bool, true, true≢false, List, length, take, drop, Option, None, Some, is_some, sym, ap, subst, ◌∙◌, arith, bytes_eq}
+use Rattle.std.proofs.Common.{◌≡◌, ℕ, ◌-◌, ◌*◌, ◌≤◌, ◌&&◌, ◌++◌, Bool, true, false, true≢false, refl, List, length, take, drop, Option, None, Some, is_some, sym, ap, subst, ◌∙◌, arith, bytes_eq}
 use Rattle.std.specs.Prelude.{MatchOption, unwrap_or}
-use Rattle.std.specs.Bool.{Decides}
 use Rattle.std.proofs.lemmas.Bool.Decides.{Decides-and, Decides-like, same_from_decides}
 use Rattle.std.proofs.lemmas.Slice.Eq.{bytes_eq-Decides}
 use Rattle.std.proofs.lemmas.List.{take-append-drop, take-append-le, length-take}
@@ -35,8 +34,12 @@ pub given : {X : Type 0} (o : Option X) (x : X) (P : Type 0) (Q : X → Type 0) 
 given None x P Q q m = absurd (true≢false (sym (ap is_some q)))
 given (Some y) x P Q q m = subst Q (ap (λ o. unwrap_or o y) q) m
 
--- where the first n bytes are the same, the last n tell
-pub last-tells : (n : ℕ) (xs ys f g l m : List ℕ) → n ≤ length xs → length xs ≤ 2 * n → length ys ≡ length xs → f ≡ take n xs → g ≡ take n ys → l ≡ drop (length xs - n) xs → m ≡ drop (length ys - n) ys → bytes_eq f g ≡ true → bytes_eq l m ≡ bytes_eq xs ys
-last-tells n xs ys f g l m long covered same qf qg ql qm alike =
-    let first : bytes_eq (take n xs) (take n ys) ≡ true = rw (← qf, ← qg) alike in
-    rw (ql, qm) (sym (ap (λ b. b && bytes_eq (drop (length xs - n) xs) (drop (length ys - n) ys)) first) ∙ ends-tell n xs ys long covered same)
+and-true : (b : Bool) → (b && true) ≡ b
+and-true true = refl
+and-true false = refl
+
+-- where the last n bytes are the same, the first n tell
+pub first-tells : (n : ℕ) (xs ys f g l m : List ℕ) → n ≤ length xs → length xs ≤ 2 * n → length ys ≡ length xs → f ≡ take n xs → g ≡ take n ys → l ≡ drop (length xs - n) xs → m ≡ drop (length ys - n) ys → bytes_eq l m ≡ true → bytes_eq f g ≡ bytes_eq xs ys
+first-tells n xs ys f g l m long covered same qf qg ql qm alike =
+    let last : bytes_eq (drop (length xs - n) xs) (drop (length ys - n) ys) ≡ true = rw (← ql, ← qm) alike in
+    rw (qf, qg) (sym (and-true (bytes_eq (take n xs) (take n ys))) ∙ ap (λ b. bytes_eq (take n xs) (take n ys) && b) (sym last) ∙ ends-tell n xs ys long covered same)

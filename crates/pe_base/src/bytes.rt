@@ -71,7 +71,7 @@ fn same_ends<const N: usize>(a: &[u8], b: &[u8]) -> bool
     ensures { result ≡ bytes_eq a.now b.now }
 {
     let (first, last) = (a.first_chunk::<N>().unwrap(), a.last_chunk::<N>().unwrap());
-    first == b.first_chunk::<N>().unwrap() && last == b.last_chunk::<N>().unwrap()
+    last == b.last_chunk::<N>().unwrap() && first == b.first_chunk::<N>().unwrap()
 }
 
 impl PartialEq for Bytes {

@@ -113,7 +113,6 @@ returns-clause-count g c =
     let root = c.args.root in
     let at = c.loop-following.invariant.at in
     let test = is_same_as g.D.Activatable.is_same_origin (entry_of old.entries root) in
-    let changes = activated_where test g.D.Activatable.with_stamp c.args.now in
     let here = c.loop-following.invariant.walked in
     let ended = c.loop-following.invariant.following ∙ c.in_default.is in
     let all = c.is_visited_in_tree_order.ensures.last root at here.listed ended in
@@ -124,11 +123,8 @@ returns-clause-count g c =
 
 pub returns-clause-within : goal.returns-clause-within
 returns-clause-within g c =
-    let old = c.args.frames.now in
     let root = c.args.root in
     let at = c.loop-following.invariant.at in
-    let test = is_same_as g.D.Activatable.is_same_origin (entry_of old.entries root) in
-    let changes = activated_where test g.D.Activatable.with_stamp c.args.now in
     let here = c.loop-following.invariant.walked in
     let ended = c.loop-following.invariant.following ∙ c.in_default.is in
     let all = c.is_visited_in_tree_order.ensures.last root at here.listed ended in
@@ -136,11 +132,8 @@ returns-clause-within g c =
 
 pub returns-clause-cost : goal.returns-clause-cost
 returns-clause-cost g c =
-    let old = c.args.frames.now in
     let root = c.args.root in
     let at = c.loop-following.invariant.at in
-    let test = is_same_as g.D.Activatable.is_same_origin (entry_of old.entries root) in
-    let changes = activated_where test g.D.Activatable.with_stamp c.args.now in
     let here = c.loop-following.invariant.walked in
     let ended = c.loop-following.invariant.following ∙ c.in_default.is in
     let all = c.is_visited_in_tree_order.ensures.last root at here.listed ended in

@@ -1,4 +1,4 @@
-use Rattle.std.proofs.Common.{Some, ap, ◌∙◌, sym}
+use Rattle.std.proofs.Common.{ap, ◌∙◌, sym}
 use Rattle.std.specs.Option.{option_map, option_copied}
 use Rattle.pe_frames.specs.Forest.{entry_of}
 use Rattle.pe_frames.specs.Kept.{position_of, standing_in}
