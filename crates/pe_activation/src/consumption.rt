@@ -82,7 +82,7 @@ fn consume_page<D: Activatable, L: Ledger>(
 }
 
 // Consumes so in each document at and below the frame. What follows a frame is looked up before the frame is
-// written, so that its row is found once.
+// written: the two look-ups of its row then stand side by side, and the compiler makes one of them.
 fn consume_under<D: Activatable, L: Ledger>(
     frames: &mut Frames<D>,
     root: Handle,

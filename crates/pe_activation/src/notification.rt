@@ -70,8 +70,8 @@ fn activate_upward<D: Activatable, L: Ledger>(
 }
 
 // Activates the documents below the frame that are same origin with its own, which was activated before,
-// and answers how many. What follows a frame is looked up before the frame is written, so that its row is
-// found once.
+// and answers how many. What follows a frame is looked up before the frame is written: the look-ups of its
+// row then stand side by side, and the compiler makes one of them.
 fn activate_below<D: Activatable, L: Ledger>(
     frames: &mut Frames<D>,
     root: Handle,

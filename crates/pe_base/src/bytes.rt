@@ -15,7 +15,8 @@ use std::hash::{Hash, Hasher};
 use std::marker::Model;
 
 /// Bytes that are owned, seen by contracts as their list. They are compared byte for byte, in
-/// lexicographic order. Up to 24 of them, as of most hosts, stand in the value itself and take no memory.
+/// lexicographic order. Up to 24 of them that are copied, as most hosts are, stand in the value itself and take
+/// no memory.
 #[derive(Debug, Drop)]
 pub struct Bytes {
     items: SmallVec<u8, 24>,
@@ -30,7 +31,7 @@ impl Model for Bytes {
 }
 
 impl Bytes {
-    /// Owns the given bytes.
+    /// Owns the given bytes, in the memory that they have.
     pub fn of(items: Vec<u8>) -> Bytes
         ensures { result ≡ items.items }
     {

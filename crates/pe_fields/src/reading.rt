@@ -245,6 +245,9 @@ fn next_member(alloc: Global, bytes: &[u8]) -> Result<((Lent<'_>, Member<'_>), &
 /// The bytes that a member with its comma takes about, by which room is taken ahead.
 const MEMBER_LENGTH: usize = 16;
 
+/// For how many members there is room ahead at most: few headers name more features than there are.
+const MEMBERS_AHEAD: usize = 16;
+
 /// The first member and those behind it, as many as there are.
 fn members_from<'a>(
     alloc: Global,
@@ -253,7 +256,8 @@ fn members_from<'a>(
 ) -> Result<(Vec<(Lent<'a>, Member<'a>)>, &'a [u8]), Fault>
     ensures { Gives (λ x. (x.0.items, x.1.now)) result (Some (members_from (first.entry, bytes.now))) }
 {
-    let mut members = Vec::with_capacity(alloc, bytes.len() / MEMBER_LENGTH + 1)?;
+    let ahead = (bytes.len() / MEMBER_LENGTH + 1).min(MEMBERS_AHEAD);
+    let mut members = Vec::with_capacity(alloc, ahead)?;
     members.push(first)?;
     let mut rest = bytes;
     'members: loop {

@@ -40,14 +40,6 @@ noted-fewer places new doc n at r same noted test len =
     let there : r ≡ true = test ∙ ap (λ (m : ℕ). contains place_cmp places (place m at)) same ∙ noted in
     sym (ap (λ (b : Bool). length new.keys + cond b 1 0) there) ∙ len
 
-pub noted-same : (old new : BTreeSet Place) → new.keys ≡ old.keys → (d i : ℕ) → is_noted new d i ≡ is_noted old d i
-unfolding is_noted
-noted-same old new h d i = ap (list_any (is_at (place_cmp (place d i)))) h
-
-pub noted-none : (places : BTreeSet Place) → places.keys ≡ [] → (d i : ℕ) → is_noted places d i ≡ false
-unfolding is_noted
-noted-none places h d i = ap (list_any (is_at (place_cmp (place d i)))) h
-
 -- the keys of a range with these ends are those of the document
 is_own : ℕ → Place → Bool
 is_own doc q = nat_eq doc q.doc
