@@ -96,8 +96,10 @@ fn read_line<'a>(alloc: Global, line: &'a [u8]) -> Result<Option<Stamped<'a>>, L
     let Some((time, verb)) = read_head(&mut words) else {
         return Err(LineFault::Syntax);
     };
-    let event = read_behind(alloc, verb, words)?;
-    Ok(Some(Stamped { time, event }))
+    match read_behind(alloc, verb, words) {
+        Ok(event) => Ok(Some(Stamped { time, event })),
+        Err(fault) => Err(fault),
+    }
 }
 
 /// What a line of a script says: an event with its time, or nothing where the line is blank or a comment.

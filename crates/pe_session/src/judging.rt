@@ -63,9 +63,13 @@ fn judge_event(
     ensures { (duration : ℕ) (H : History) → Stands duration engine.old H → IfOk result (λ refused.
         Judged duration engine.new number H (Says (told stamped.now)) out.old.items out.new.items refused) }
 {
-    let replies = reply::<Brand>(engine, stamped, Blank::new(1))?;
-    put_replies(number, &replies, out)?;
-    Ok(is_refusal(&replies.answer))
+    match &reply::<Brand>(engine, stamped, Blank::new(1)) {
+        Ok(replies) => {
+            put_replies(number, replies, out)?;
+            Ok(is_refusal(&replies.answer))
+        }
+        Err(AllocError) => Err(AllocError),
+    }
 }
 
 /// What the engine replies to an event, in steps that are counted in contracts alone.
