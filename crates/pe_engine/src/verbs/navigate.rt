@@ -110,7 +110,9 @@ impl Engine {
             Ok(place) => place,
             Err(refusal) => return Err(refusal),
         };
-        let mut row = self.next_row(number, h, place, bytes_of(header), steps)?;
+        let Ok(mut row) = self.next_row(number, h, place, bytes_of(header), steps) else {
+            return Err(Refusal::Memory);
+        };
         let origin = row.origin.copy()?;
         let first = self.row(h, steps).doc;
         let before = self.pass(now, steps)?;

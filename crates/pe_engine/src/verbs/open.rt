@@ -115,7 +115,9 @@ impl Engine {
         if self.frames.pages() >= PAGE_LIMIT {
             return Err(Refusal::For(Cause::LimitPages));
         }
-        let row = top_row(self.alloc, number, place, bytes_of(header))?;
+        let Ok(row) = top_row(self.alloc, number, place, bytes_of(header)) else {
+            return Err(Refusal::Memory);
+        };
         let origin = row.origin.copy()?;
         self.add_page(now, number, row)?;
         Ok(frame_made(number, origin))
@@ -240,7 +242,7 @@ impl Engine {
             fullscreen,
         };
         let row = self.row(found.at, steps);
-        let mut row = child_row(
+        let Ok(mut row) = child_row(
             self.alloc,
             row,
             found.number,
@@ -248,7 +250,9 @@ impl Engine {
             srcdoc,
             bytes_of(header),
             &attributes,
-        )?;
+        ) else {
+            return Err(Refusal::Memory);
+        };
         row.attributes = attributes;
         let origin = row.origin.copy()?;
         self.add_child(now, found.at, found.number, row)?;

@@ -32,9 +32,6 @@ returns-in-Err g c = λ H s.
     replied-place e H (timed c.args.now (event.Navigate c.args.frame c.args.url.now c.args.header.now)) c.as_slice.result.now c.in-Err.refusal c.in-Err.ensures
     (λ none. c.in_ok-number.ensures.rest H _ s refl ∙ url-nav T c.args.now c.args.frame c.args.url.now c.args.header.now (sym (ap place_at c.as_slice.ensures) ∙ none))
 
-pub returns-in_err-row : goal.returns-in_err-row
-returns-in_err-row g c = λ H s. replied-memory _ _ H _ c.from_residual-in_err-row.result c.from_residual-in_err-row.ensures.1
-
 pub returns-in_err-origin : goal.returns-in_err-origin
 returns-in_err-origin g c = λ H s. replied-memory _ _ H _ c.from_residual-in_err-origin.result c.from_residual-in_err-origin.ensures.1
 
@@ -53,7 +50,7 @@ returns g c = λ H s.
     let T = replied e.duration H in
     let f = c.args.frame in
     let h = c.in_ok-number.h in
-    let x = c.in_ok-row.row in
+    let x = c.in-Ok-next_row.row in
     let v = timed c.args.now (event.Navigate f c.args.url.now c.args.header.now) in
     let laws = c.engine_laws.ensures in
     let p = c.pass.new.self in
@@ -70,8 +67,8 @@ returns g c = λ H s.
     ∙ navigated-anyway h (record x { attributes = c.take_attributes.result }) bare e.frames.entries
     ∙ ap (λ (a : Attributes). navigated h (record x { attributes = a }) e.frames.entries) taken.0 in
     let shown = c.row-2.ensures.shown H f s c.in_ok-number.ensures.handle in
-    let (says, tree) = navigation laws.history e H c.args.now c.in_ok-number.number f c.args.url.now c.args.header.now h y x N s c.in_ok-number.ensures.number c.in_ok-number.ensures.handle found c.in_ok-row.ensures.new
-    (λ item. subst (λ o. IsSettled (record { time = c.args.now; event = event.Navigate f c.args.url.now o; item = item } ∷ T) x) c.bytes_of.ensures (c.in_ok-row.ensures.settled H c.args.now f c.args.url.now item s c.in_ok-number.ensures.handle named c.in_ok-number.ensures.number))
+    let (says, tree) = navigation laws.history e H c.args.now c.in_ok-number.number f c.args.url.now c.args.header.now h y x N s c.in_ok-number.ensures.number c.in_ok-number.ensures.handle found c.in-Ok-next_row.ensures.new
+    (λ item. subst (λ o. IsSettled (record { time = c.args.now; event = event.Navigate f c.args.url.now o; item = item } ∷ T) x) c.bytes_of.ensures (c.in-Ok-next_row.ensures.settled H c.args.now f c.args.url.now item s c.in_ok-number.ensures.handle named c.in_ok-number.ensures.number))
     entries (c.in-Ok-navigate.ensures.marks ∙ ap (λ (w : Forest Row). w.marks) taken.1) in
     let has = has-ended e p _ c.leave.new.self c.note.new.self c.args.now made.Doc N c.in_ok-before.ensures.rest (ap (λ (w : EngineValue). record w { frames = N }) c.self-2.view_is) c.in_ok-after.ensures.rest c.in_ok-note.ensures.ok in
     let of-frame = node-at T e.made e.frames f h y s.steps.tree c.in_ok-number.ensures.handle found in
