@@ -229,7 +229,9 @@ pub(crate) fn top_row(
 {
     let secure = trustworthy(&place);
     let origin = origin_of_place(place, number);
-    let policy = top_policy(alloc, number, &origin, header)?;
+    let Ok(policy) = top_policy(alloc, number, &origin, header) else {
+        return Err(AllocError);
+    };
     let single = Key::One(origin.copy()?);
     let pair = pair_key(&single, &origin)?;
     Ok(Row {
@@ -264,7 +266,9 @@ pub(crate) fn child_row(
 {
     let sandboxed = embedder.sandboxed || sandboxes(attributes);
     let origin = child_origin(sandboxed, &embedder.origin, number, place, srcdoc)?;
-    let policy = child_policy(alloc, embedder, number, &origin, header, attributes)?;
+    let Ok(policy) = child_policy(alloc, embedder, number, &origin, header, attributes) else {
+        return Err(AllocError);
+    };
     let single = embedder.single.copy()?;
     let pair = pair_key(&single, &origin)?;
     Ok(Row {
