@@ -10,11 +10,10 @@ use Rattle.pe_origin.specs.declared.origin.Origin.{Origin}
 use Rattle.pe_allowlist.specs.declared.allowlist.Allowlist.{Allowlist}
 use Rattle.pe_allowlist.specs.Lists.{lists_of, is_policy_controlled}
 use Rattle.pe_policy.specs.declared.row.Links.{Links}
-use Rattle.pe_policy.specs.declared.row.Row.{Row}
 use Rattle.pe_policy.specs.Links.{ChainDocument, end_of_chain, fails_embedder_self, fails_embedder_header, fails_allow, fails_default, fails_own_header, denied_where, pair_test, own_test}
 use Rattle.pe_policy.specs.Denials.{first_failing, denial}
 use Rattle.pe_policy.specs.InheritedPolicy.{value_for}
-use Rattle.pe_policy.specs.PolicyValue.{no_links, allowed_row, failing_at_top, failing_at_child, failing_at, denial_by, denial_below, top_row, child_row, PolicyValue, row_of, link_of, IsDocument, IsContained, IsPolicyOf, pair_rule, own_rule}
+use Rattle.pe_policy.specs.PolicyValue.{Row, no_links, allowed_row, failing_at_top, failing_at_child, failing_at, denial_by, denial_below, top_row, child_row, PolicyValue, row_of, link_of, IsDocument, IsContained, IsPolicyOf, pair_rule, own_rule}
 use Rattle.pe_policy.proofs.Values.{denial-value}
 
 -- ---- the last link, and the tests along a longer list

@@ -2,3 +2,4 @@ pub mod Links
 pub mod Denials
 pub mod InheritedPolicy
 pub mod PolicyValue
+pub mod PackedRows

@@ -12,13 +12,17 @@ use Rattle.pe_origin.specs.declared.origin.Origin.{Origin}
 use Rattle.pe_allowlist.specs.declared.allowlist.Allowlist.{Allowlist}
 use Rattle.pe_allowlist.specs.Lists.{lists_of, is_policy_controlled}
 use Rattle.pe_policy.specs.declared.row.Links.{Links}
-use Rattle.pe_policy.specs.declared.row.Row.{Row}
 use Rattle.pe_policy.specs.Links.{ChainDocument, end_of_chain, fails_embedder_header, fails_allow, fails_default, fails_own_header, denied_where, pair_test, own_test}
 use Rattle.pe_policy.specs.Denials.{denial}
 
 -- no test fails
 abbrev pub no_links : Links
 no_links = record { embedder_header = false; allow = false; by_default = false; own_header = false }
+
+-- why a feature is denied in a document, if it is, and which tests fail at the document
+pub record Row : Type 0 where
+  pub denial : Option Denial
+  pub links : Links
 
 -- the row of a feature that no test denies
 abbrev pub allowed_row : Row

@@ -52,7 +52,7 @@ fn top_rows(declared: &Declared, origin: &Origin, doc: DocNo) -> [Row; 16]
         → slice_index_or result (feature_number f) allowed_row
         ≡ top_row (failing_at_top f (link_of 0 origin.now declared.now [])) doc }
 {
-    let mut rows = [Row::ALLOWED; 16];
+    let mut rows = [Row::allowed(); 16];
     for i in 0..16 {
         rows[i] = Row::at_top(failing_at_top(declared, origin, Feature::ALL[i]), doc);
     }
@@ -78,7 +78,7 @@ fn child_rows(
         → slice_index_or result (feature_number f) allowed_row ≡ allowed_row }
 {
     let is_same = same_origin(origin, parent_origin);
-    let mut rows = [Row::ALLOWED; 16];
+    let mut rows = [Row::allowed(); 16];
     for i in 0..16 {
         let feature = Feature::ALL[i];
         let links = failing_at_child(
@@ -166,7 +166,7 @@ impl Policy {
             → IsTrue (is_policy_controlled feature)
             → (result ≡ None) ↔ (value_for feature (top ∷ rest) (end_of_chain top rest).origin ≡ true) }
     {
-        self.row(feature).denial
+        self.row(feature).denial()
     }
 
     /// Which tests fail at the document itself.
@@ -177,6 +177,6 @@ impl Policy {
             → IsPolicyOf self.now top rest
             → result ≡ failing_at feature (top ∷ rest) }
     {
-        self.row(feature).links
+        self.row(feature).links()
     }
 }

@@ -96,10 +96,8 @@ fn read_line<'a>(alloc: Global, line: &'a [u8]) -> Result<Option<Stamped<'a>>, L
     let Some((time, verb)) = read_head(&mut words) else {
         return Err(LineFault::Syntax);
     };
-    match read_behind(alloc, verb, words) {
-        Ok(event) => Ok(Some(Stamped { time, event })),
-        Err(fault) => Err(fault),
-    }
+    let event = read_behind(alloc, verb, words)?;
+    Ok(Some(Stamped { time, event }))
 }
 
 /// What a line of a script says: an event with its time, or nothing where the line is blank or a comment.

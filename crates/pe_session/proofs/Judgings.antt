@@ -132,9 +132,6 @@ if-none (Some x) P e h = cc
 pub if-some : {A : Type 0} (o : Option A) (x : A) (P : A → Type 0) → o ≡ Some x → IfSome o P → P x
 if-some o x P e h = subst (λ p. IfSome p P) e h
 
-pub if-ok : {A E : Type 0} (r : Result A E) (x : A) (P : A → Type 0) → r ≡ Ok x → IfOk r P → P x
-if-ok r x P e h = subst (λ p. IfOk p P) e h
-
 -- an event, by what the engine replied
 pub judged-event : (duration : ℕ) (engine next : EngineValue) (number : ℕ) (H : History) (e : Timed) (reply : Replies) (out new : List ℕ) → Stands duration engine H → IsReply engine next H e reply
     → new ≡ out ++ replies_text number reply → Judged duration next number H (Says e) out new (is_refusal reply.answer)

@@ -35,7 +35,7 @@ pub fn judge(
         Cut::Bytes(line) => line,
     };
     match read_event(alloc, line) {
-        Ok(Some(stamped)) => judge_event(engine, number, &stamped, out),
+        Ok(Some(stamped)) => judge_event(engine, number, stamped, out),
         Ok(None) => Ok(false),
         Err(LineFault::BadByte) => put_refusal(number, Cause::BadByte, out),
         Err(LineFault::Syntax) => put_refusal(number, Cause::Syntax, out),
@@ -57,34 +57,30 @@ fn put_refusal(number: u64, cause: Cause, out: &mut Vec<u8>) -> Result<bool, All
 fn judge_event(
     engine: &mut Engine,
     number: u64,
-    stamped: &Stamped<'_>,
+    stamped: Stamped<'_>,
     out: &mut Vec<u8>,
 ) -> Result<bool, AllocError>
     ensures { (duration : ℕ) (H : History) → Stands duration engine.old H → IfOk result (λ refused.
-        Judged duration engine.new number H (Says (told stamped.now)) out.old.items out.new.items refused) }
+        Judged duration engine.new number H (Says (told stamped.entry)) out.old.items out.new.items refused) }
 {
-    match &reply::<Brand>(engine, stamped, Blank::new(1)) {
-        Ok(replies) => {
-            put_replies(number, replies, out)?;
-            Ok(is_refusal(&replies.answer))
-        }
-        Err(AllocError) => Err(AllocError),
-    }
+    let replies = reply::<Brand>(engine, stamped, Blank::new(1))?;
+    put_replies(number, &replies, out)?;
+    Ok(is_refusal(&replies.answer))
 }
 
 /// What the engine replies to an event, in steps that are counted in contracts alone.
 fn reply<L: Ledger>(
     engine: &mut Engine,
-    stamped: &Stamped<'_>,
+    stamped: Stamped<'_>,
     blank: Blank,
 ) -> Result<Replies, AllocError>
     requires name { blank.name ≡ L.name }
     requires parts { blank.parts ≡ L.parts }
     requires some { 0 < blank.parts }
-    ensures replied { (H : History) → StandsFor engine.old H → IfOk result (IsReply engine.old engine.new H (timed stamped.now.time stamped.now.event)) }
+    ensures replied { (H : History) → StandsFor engine.old H → IfOk result (IsReply engine.old engine.new H (timed stamped.entry.time stamped.entry.event)) }
 {
     let mut steps: Steps<L> = Steps::start(blank);
-    engine.step(stamped, &mut steps)
+    engine.step(&stamped, &mut steps)
 }
 
 /// Puts the text of a reply behind the others: the changes before, the answer and the changes after.
