@@ -7,9 +7,10 @@ use Rattle.std.proofs.lemmas.Bool.{eqb-true}
 use Rattle.std.proofs.lemmas.List.{get_or-take, get_or-drop, length-take, length-drop, drop-drop, drop_more, take-append-drop}
 use Rattle.std.proofs.Math.Seq.{take-append-add}
 use Rattle.std.proofs.lemmas.List.Sums.{fails_before_first, passes_at_first, prefix_len-le-length, list_all-from_AllPass}
+use Rattle.memchr.specs.Find.{IsFirstByte, is_byte}
 use Rattle.pe_lines.specs.Words.{is_blank, Between, Bare, Quoted, Escaped, Closed, closed, longer, begun, ahead_at_byte, ahead_of}
 use Rattle.pe_lines.specs.Grammar.{is_escaped, escaped, ends_bare, is_bare, IsBareText, ends_word}
-use Rattle.pe_lines.specs.Steps.{IsWordAt, HasNoWords, char_len, begins_escape, begins_plain, begins_quote, IsEscapedFront, ClosesAfter, NeverCloses, without_escapes}
+use Rattle.pe_lines.specs.Steps.{IsWordAt, HasNoWords, char_len, begins_escape, begins_plain, begins_quote, IsEscapedFront, ClosesAfter, NeverCloses, IsFirstEscape, without_escapes}
 use Rattle.pe_lines.proofs.Ahead.{kind_by, prefixed, and_first, and_rest, first_bare_byte, bare_byte, quoted_ahead}
 
 -- ---- bare words
@@ -282,6 +283,45 @@ undone (b ∷ text) = undone_escape b text (is_escaped b) refl (undone text)
 pub nothing_undone : (bytes : List ℕ) → list_any (λ b. b == 92) bytes ≡ false → without_escapes bytes ≡ bytes
 nothing_undone [] h = refl
 nothing_undone (b ∷ bytes) h = plain_first b bytes bytes (or_first (b == 92) (list_any (λ b. b == 92) bytes) h) (nothing_undone bytes (or_rest (b == 92) (list_any (λ b. b == 92) bytes) h))
+
+-- ---- the next escape
+
+not_true : (b : Bool) → (b ≡ true → ⊥) → b ≡ false
+not_true true h = absurd (h refl)
+not_true false h = refl
+
+undone_at : (n : ℕ) (bytes : List ℕ) → ((k : ℕ) → k < n → (get_or bytes k 0 == 92) ≡ false) → n + 1 < length bytes → get_or bytes n 0 ≡ 92
+    → without_escapes bytes ≡ take n bytes ++ get_or bytes (suc n) 0 ∷ without_escapes (drop (suc (suc n)) bytes)
+undone_at n [] plain within slash = absurd (omega arith)
+undone_at n (b ∷ []) plain within slash = absurd (omega arith)
+undone_at zero (b ∷ c ∷ rest) plain within slash = ap (λ d. without_escapes (d ∷ c ∷ rest)) slash
+undone_at (suc n) (b ∷ c ∷ rest) plain within slash = plain_first b (c ∷ rest) _ (plain 0 (omega arith)) (undone_at n (c ∷ rest) (λ k lt. plain (suc k) (omega (arith, lt))) (omega (arith, within)) slash)
+
+kept_to_end : (n : ℕ) (bytes : List ℕ) → ((k : ℕ) → k < n → (get_or bytes k 0 == 92) ≡ false) → length bytes ≤ n + 1 → without_escapes bytes ≡ bytes
+kept_to_end n [] plain within = refl
+kept_to_end n (b ∷ []) plain within = refl
+kept_to_end zero (b ∷ c ∷ rest) plain within = absurd (omega arith)
+kept_to_end (suc n) (b ∷ c ∷ rest) plain within = plain_first b (c ∷ rest) (c ∷ rest) (plain 0 (omega arith)) (kept_to_end n (c ∷ rest) (λ k lt. plain (suc k) (omega (arith, lt))) (omega (arith, within)))
+
+slash_here : (b : ℕ) → is_byte 92 b ≡ true → b ≡ 92
+slash_here b h = eqb-true b 92 h
+
+-- the first backslash is that of an escape
+pub first_escape : (bytes : List ℕ) (n : ℕ) → IsFirstByte (is_byte 92) bytes (Some n) → n + 1 < length bytes → IsFirstEscape bytes n
+first_escape bytes n (before, here) within =
+    let plain : (k : ℕ) → k < n → (get_or bytes k 0 == 92) ≡ false = λ k lt. not_true (get_or bytes k 0 == 92) (before.before k (omega arith) lt) in
+    let slash = slash_here (get_or bytes n 0) here in
+    let next : suc n ≡ n + 1 = omega arith in
+    let behind : suc (suc n) ≡ n + 2 = omega arith in
+    record { within = within; plain = plain; slash = slash; undone = undone_at n bytes plain within slash ∙ ap (λ k. take n bytes ++ get_or bytes k 0 ∷ without_escapes (drop (suc (suc n)) bytes)) next ∙ ap (λ k. take n bytes ++ get_or bytes (n + 1) 0 ∷ without_escapes (drop k bytes)) behind }
+
+-- the first backslash is the last byte
+pub last_slash : (bytes : List ℕ) (n : ℕ) → IsFirstByte (is_byte 92) bytes (Some n) → n + 1 ≡ length bytes → without_escapes bytes ≡ bytes
+last_slash bytes n (before, here) e = kept_to_end n bytes (λ k lt. not_true (get_or bytes k 0 == 92) (before.before k (omega arith) lt)) (omega (arith, e))
+
+-- there is no backslash
+pub no_escape : (bytes : List ℕ) → IsFirstByte (is_byte 92) bytes None → without_escapes bytes ≡ bytes
+no_escape bytes h = kept_to_end (length bytes) bytes (λ k lt. not_true (get_or bytes k 0 == 92) (h k (omega arith) lt)) (omega arith)
 
 -- what stands in quotes from a place on, in parts
 quoted_parts : (line : List ℕ) (start n : ℕ) → start < length line → get_or line start 0 ≡ 34 → ClosesAfter (drop (start + 1) line) n

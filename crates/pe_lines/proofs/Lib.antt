@@ -4,7 +4,7 @@ pub mod Overlong
 pub mod Going
 pub mod Ahead
 pub mod Agreement
-pub mod Feeds
+pub mod FirstBytes
 pub mod Found
 pub mod Reading
 mod PlainTexts

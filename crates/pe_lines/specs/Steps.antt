@@ -1,7 +1,7 @@
 -- What the steps of the reader of words find in a line.
 -- This project's own.
 -- These are facts of helpers; what the words of a line are is said by the grammar.
-use Rattle.std.specs.Prelude.{◌≡◌, ℕ, ◌+◌, ◌<◌, ◌≤◌, ◌==◌, ◌&&◌, Bool, true, false, not, List, [], ◌∷◌, length, drop, take, if◌then◌else◌, Option, Some, None}
+use Rattle.std.specs.Prelude.{◌≡◌, ℕ, ◌+◌, ◌<◌, ◌≤◌, ◌==◌, ◌&&◌, Bool, true, false, not, List, [], ◌∷◌, ◌++◌, length, drop, take, slice_index, if◌then◌else◌, Option, Some, None}
 use Rattle.pe_lines.specs.Words.{Word, Between, Quoted, ahead_of}
 use Rattle.pe_lines.specs.Grammar.{is_escaped, escaped, StandsFirst}
 
@@ -55,6 +55,13 @@ abbrev pub without_escapes : List ℕ → List ℕ
 without_escapes [] = []
 without_escapes (b ∷ []) = b ∷ []
 without_escapes (b ∷ c ∷ bytes) = if b == 92 then c ∷ without_escapes bytes else b ∷ without_escapes (c ∷ bytes)
+
+-- at this place stands the first backslash, and a byte stands behind it
+pub record IsFirstEscape (bytes : List ℕ) (place : ℕ) : Type 0 where
+  pub within : place + 1 < length bytes
+  pub plain : (k : ℕ) → k < place → (slice_index bytes k == 92) ≡ false
+  pub slash : slice_index bytes place ≡ 92
+  pub undone : without_escapes bytes ≡ take place bytes ++ slice_index bytes (place + 1) ∷ without_escapes (drop (place + 2) bytes)
 
 -- the text of a word, by what stands of it in the line
 abbrev pub text_of : Bool → List ℕ → List ℕ

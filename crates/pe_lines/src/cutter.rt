@@ -252,7 +252,7 @@ fn line_feed(held: &[u8], at: usize, scanned: usize) -> Option<usize>
 }
 
 /// The place of the first line feed.
-#[tactic(auto, using(crate::proofs::Feeds::first_feed))]
+#[tactic(auto, using(crate::proofs::FirstBytes::first_feed))]
 fn first_line_feed(bytes: &[u8]) -> Option<usize>
     ensures { result ≡ position is_line_feed bytes.now }
 {

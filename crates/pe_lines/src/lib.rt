@@ -9,7 +9,7 @@ mod text;
 pub use cutter::{Cut, Cutter};
 pub use laws::{cuts_go_on, ended_lines_stay, words_are_by_grammar};
 pub use span::{WordReader, WordSpan, has_bad_byte};
-pub use text::Text;
+pub use text::{OptionalText, Text};
 
 #[cfg(test)]
 mod tests;

@@ -4,9 +4,10 @@ ghost use Rattle.std.specs.List.{position, position_or_len};
 ghost use Rattle.std.specs.Option.{option_copied};
 ghost use Rattle.pe_lines.specs.Words.{Word, is_blank, is_bad_byte, has_bad_byte, words_of, words_from};
 ghost use Rattle.pe_lines.specs.Grammar.{ends_bare, ends_word, is_escaped};
-ghost use Rattle.pe_lines.specs.Steps.{IsWordAt, HasNoWords, begins_escape, begins_quote, ClosesAfter, NeverCloses, without_escapes};
+ghost use Rattle.pe_lines.specs.Steps.{IsWordAt, HasNoWords, begins_escape, begins_quote, ClosesAfter, NeverCloses, IsFirstEscape, without_escapes};
 
 use crate::text::Text;
+use memchr::{memchr, memchr2, memchr3};
 use std::alloc::{AllocError, Global};
 use std::marker::Model;
 
@@ -159,12 +160,11 @@ fn ends_word(rest: &[u8]) -> bool
 }
 
 /// The place of the first blank or quote.
+#[tactic(auto, using(crate::proofs::FirstBytes::first_bare_end))]
 fn bare_end(bytes: &[u8]) -> Option<usize>
     ensures { result ≡ position ends_bare bytes.now }
 {
-    bytes
-        .iter()
-        .position(|byte| *byte == b' ' || *byte == b'\t' || *byte == b'"')
+    memchr3(b' ', b'\t', b'"', bytes)
 }
 
 /// How many bytes stand before the first blank or quote.
@@ -222,12 +222,11 @@ fn is_escaped(byte: u8) -> bool
 }
 
 /// The place of the first quote or backslash.
+#[tactic(auto, using(crate::proofs::FirstBytes::first_escaped))]
 fn plain_end(bytes: &[u8]) -> Option<usize>
     ensures { result ≡ position is_escaped bytes.now }
 {
-    bytes
-        .iter()
-        .position(|byte| *byte == b'"' || *byte == b'\\')
+    memchr2(b'"', b'\\', bytes)
 }
 
 /// How many bytes stand before the first quote or backslash.
@@ -277,21 +276,31 @@ fn quoted_len(bytes: &[u8]) -> Option<usize>
     None
 }
 
+/// The place of the first backslash that a byte stands behind.
+fn next_escape(bytes: &[u8]) -> Option<usize>
+    ensures first { IfSome result (IsFirstEscape bytes.now) }
+    ensures none { IfNone result (without_escapes bytes.now ≡ bytes.now) }
+{
+    let place = memchr(b'\\', bytes)?;
+    if place + 1 == bytes.len() {
+        return None;
+    }
+    Some(place)
+}
+
 /// The bytes with each escape undone.
 fn without_escapes(alloc: Global, bytes: &[u8]) -> Result<Vec<u8>, AllocError>
     ensures { IfOk result (λ out. out.items ≡ without_escapes bytes.now) }
 {
     let mut out = Vec::with_capacity(alloc, bytes.len())?;
     let mut rest = bytes;
-    loop {
-        match rest {
-            [] => return Ok(out),
-            [b'\\', byte, more @ ..] | [byte, more @ ..] => {
-                out.push(*byte)?;
-                rest = more;
-            }
-        }
+    while let Some(place) = next_escape(rest) {
+        out.extend_from_slice(&rest[..place])?;
+        out.push(rest[place + 1])?;
+        rest = &rest[place + 2..];
     }
+    out.extend_from_slice(rest)?;
+    Ok(out)
 }
 
 /// The text that stands in quotes, which borrows the line where nothing is escaped.
@@ -300,7 +309,7 @@ fn quoted_text<'a>(alloc: Global, bytes: &'a [u8]) -> Result<Text<'a>, AllocErro
 {
     if bytes.contains(&b'\\') {
         let out = without_escapes(alloc, bytes)?;
-        return Ok(Text::of(out));
+        return Ok(Text::of(Box::new(alloc, out)?));
     }
     Ok(Text::lent(bytes))
 }

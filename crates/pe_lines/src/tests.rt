@@ -1,7 +1,7 @@
 //! What no contract says: that there is memory, and that the definitions give the rows that were meant.
 ghost use Rattle.std.specs.Prelude.{◌≡◌};
 
-use crate::{Cut, Cutter, WordReader};
+use crate::{Cut, Cutter, OptionalText, Text, WordReader};
 use std::alloc::{AllocError, Global};
 use std::process::Abort;
 use std::test::Fail;
@@ -108,7 +108,7 @@ fn shown(alloc: Global, line: &[u8]) -> Result<Option<Vec<u8>>, AllocError> {
 
 #[test]
 fn words_come_up_to_the_first_fault(rt: HostRuntime) -> Result<(), Fail> {
-    let rows: [(&[u8], &[u8]); 15] = [
+    let rows: [(&[u8], &[u8]); 17] = [
         (b"", b""),
         (b" \t ", b""),
         (b"0 tick", b"0|tick|"),
@@ -119,6 +119,8 @@ fn words_come_up_to_the_first_fault(rt: HostRuntime) -> Result<(), Fail> {
             b"x\\y|q(self \"https://p.example\")|",
         ),
         (b"\"\\\\\\\"\"\t#", b"q\\\"|#|"),
+        (b"\"\\\\\\\\n\" x", b"q\\\\n|x|"),
+        (b"\"\\\"abcdefgh\\\"ij\"", b"q\"abcdefgh\"ij|"),
         (b"# a comment", b"#|a|comment|"),
         (b"\"open", b"!"),
         (b"\"a\\\"", b"!"),
@@ -156,4 +158,23 @@ fn bad_bytes_are_refused(rt: HostRuntime) {
     for line in rows {
         assert!(rt; WordReader::of(line).is_none());
     }
+}
+
+/// A text that there may be keeps its bytes, be they lent or owned.
+#[test]
+fn optional_texts_keep_their_bytes(rt: HostRuntime) -> Result<(), Fail> {
+    let none = OptionalText::none();
+    assert!(rt; !none.is_some());
+    assert_eq!(rt; none.get(), None);
+    assert!(rt; none.into_text().is_none());
+    let joined = Text::joined(rt.alloc(), Text::lent(b"a"), b", ", b"b")?;
+    let rows: [(Text<'_>, &[u8]); 2] = [(Text::lent(b"camera"), b"camera"), (joined, b"a, b")];
+    for (text, want) in rows {
+        let text = OptionalText::of(text);
+        assert!(rt; text.is_some());
+        assert_eq!(rt; text.get(), Some(want));
+        let back = text.into_text();
+        assert_eq!(rt; back.as_ref().map(Text::as_slice), Some(want));
+    }
+    Ok(())
 }
