@@ -7,7 +7,7 @@ use crate::refusal::Refusal;
 use crate::row::Attributes;
 use pe_base::Bytes;
 use pe_events::{AttrName, Cause};
-use pe_lines::Text;
+use pe_lines::OptionalText;
 use pe_origin::{Place, PlaceFault, read_place};
 use std::alloc::{AllocError, Global};
 
@@ -38,11 +38,11 @@ pub(crate) fn place_named(alloc: Global, url: &[u8]) -> Result<Place, Refusal>
 }
 
 /// The place that a URL names, where there is one.
-pub(crate) fn place_given(alloc: Global, url: &Option<Text<'_>>) -> Result<Option<Place>, Refusal>
+pub(crate) fn place_given(alloc: Global, url: &OptionalText<'_>) -> Result<Option<Place>, Refusal>
     ensures { GivesPlaceOrNone url.now result }
 {
-    match url {
-        Some(url) => match place_named(alloc, url.as_slice()) {
+    match url.get() {
+        Some(url) => match place_named(alloc, url) {
             Ok(place) => Ok(Some(place)),
             Err(refusal) => Err(refusal),
         },
@@ -53,12 +53,12 @@ pub(crate) fn place_given(alloc: Global, url: &Option<Text<'_>>) -> Result<Optio
 /// A copy of a value, where there is one. `AllocError` where memory wants.
 pub(crate) fn value_given(
     alloc: Global,
-    value: &Option<Text<'_>>,
+    value: &OptionalText<'_>,
 ) -> Result<Option<Bytes>, AllocError>
     ensures { IfOk result (λ bytes. bytes ≡ value.now) }
 {
-    match value {
-        Some(text) => Ok(Some(Bytes::copy_of(alloc, text.as_slice())?)),
+    match value.get() {
+        Some(bytes) => Ok(Some(Bytes::copy_of(alloc, bytes)?)),
         None => Ok(None),
     }
 }
@@ -67,7 +67,7 @@ pub(crate) fn value_given(
 pub(crate) fn attribute_given(
     alloc: Global,
     name: AttrName,
-    value: &Option<Text<'_>>,
+    value: &OptionalText<'_>,
 ) -> Result<Attribute, Refusal>
     ensures { GivesAttribute name value.now result }
 {

@@ -1,6 +1,6 @@
 //! What a line of a script says.
 use pe_base::{InputKind, State};
-use pe_lines::Text;
+use pe_lines::{OptionalText, Text};
 
 /// A content attribute of a frame element (HTML Standard, "the iframe element").
 #[derive(Clone, Copy, Debug, PartialEq, Eq)]
@@ -47,33 +47,33 @@ pub enum Event<'a> {
     /// A page is opened at a URL.
     OpenPage {
         url: Text<'a>,
-        header: Option<Text<'a>>,
+        header: OptionalText<'a>,
     },
     /// A frame is embedded in the document of another, with its attributes. `place` is the document's
     /// URL; None where that is `src`, with `srcdoc`, and without `src`. With `srcdoc` there is no `header`
     /// either.
     Embed {
         parent: u32,
-        src: Option<Text<'a>>,
-        place: Option<Text<'a>>,
-        allow: Option<Text<'a>>,
-        sandbox: Option<Text<'a>>,
+        src: OptionalText<'a>,
+        place: OptionalText<'a>,
+        allow: OptionalText<'a>,
+        sandbox: OptionalText<'a>,
         fullscreen: bool,
         srcdoc: bool,
-        header: Option<Text<'a>>,
+        header: OptionalText<'a>,
     },
     /// A frame is navigated to a URL.
     Navigate {
         frame: u32,
         url: Text<'a>,
-        header: Option<Text<'a>>,
+        header: OptionalText<'a>,
     },
     /// An attribute of a frame is set, or removed where there is no value. Of `Srcdoc` and `Fullscreen`
     /// it only counts whether they stand.
     Attr {
         frame: u32,
         name: AttrName,
-        value: Option<Text<'a>>,
+        value: OptionalText<'a>,
     },
     /// A frame is closed, with all below it.
     Close {
@@ -132,7 +132,7 @@ pub enum Event<'a> {
     SetState {
         feature: Text<'a>,
         first: Text<'a>,
-        second: Option<Text<'a>>,
+        second: OptionalText<'a>,
         state: State,
         span: Option<u64>,
     },
@@ -141,7 +141,7 @@ pub enum Event<'a> {
     Post {
         sender: u32,
         target: u32,
-        origin: Option<Text<'a>>,
+        origin: OptionalText<'a>,
         capability: Text<'a>,
     },
     /// A posted message is delivered.

@@ -12,7 +12,7 @@ use pe_base::{FrameNo, InputKind, Millis, PromptNo};
 use pe_engine::{Engine, Replies};
 use pe_events::{Answer, Event, EventLife, Outcome, Reason, Verdict, Via};
 use pe_features::Call;
-use pe_lines::Text;
+use pe_lines::{OptionalText, Text};
 use std::alloc::AllocError;
 use std::io;
 
@@ -29,7 +29,14 @@ fn open(engine: &mut Engine, now: Millis, url: &[u8]) -> Result<Option<FrameNo>,
     let Some(url) = text(url) else {
         return Ok(None);
     };
-    let replies = tell(engine, now, Event::OpenPage { url, header: None })?;
+    let replies = tell(
+        engine,
+        now,
+        Event::OpenPage {
+            url,
+            header: OptionalText::none(),
+        },
+    )?;
     Ok(frame_made(&replies))
 }
 
@@ -46,13 +53,13 @@ fn embed<'a>(
     };
     let event = Event::Embed {
         parent: parent.get(),
-        src: Some(src),
-        place: None,
-        allow: Some(allow),
-        sandbox: None,
+        src: OptionalText::of(src),
+        place: OptionalText::none(),
+        allow: OptionalText::of(allow),
+        sandbox: OptionalText::none(),
         fullscreen: false,
         srcdoc: false,
-        header: None,
+        header: OptionalText::none(),
     };
     let replies = tell(engine, now, event)?;
     Ok(frame_made(&replies))

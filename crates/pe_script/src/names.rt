@@ -7,7 +7,7 @@ ghost use Rattle.pe_script.specs.Readers.{reader_of};
 
 use pe_base::{InputKind, State};
 use pe_events::{AttrName, Outcome};
-use pe_lines::{Text, WordSpan};
+use pe_lines::{OptionalText, Text, WordSpan};
 use std::alloc::{AllocError, Global};
 
 /// The kinds of input.
@@ -189,12 +189,12 @@ pub fn text_unless<'a>(
     alloc: Global,
     keyword: &[u8],
     word: &WordSpan<'a>,
-) -> Result<Option<Text<'a>>, AllocError>
+) -> Result<OptionalText<'a>, AllocError>
     ensures { IfOk result (λ text. text ≡ text_unless keyword.now word.now) }
 {
     if is_keyword(word, keyword) {
-        return Ok(None);
+        return Ok(OptionalText::none());
     }
     let text = word.text(alloc)?;
-    Ok(Some(text))
+    Ok(OptionalText::of(text))
 }

@@ -8,9 +8,10 @@ ghost use Rattle.pe_script.specs.OptionSteps.{options_left, if_taken, told_name,
 use crate::names::{is_keyword, named_in};
 use crate::reading::LineFault;
 use pe_events::Event;
-use pe_lines::{Text, WordReader, WordSpan};
+use pe_lines::{OptionalText, Text, WordReader, WordSpan};
 use std::alloc::{AllocError, Global};
 use std::marker::Model;
+use std::mem::replace;
 
 /// The options that take a text.
 #[derive(Clone, Copy)]
@@ -36,12 +37,12 @@ const OPTION_NAMES: [(&str, OptionName); 4] = [
 /// The options that were given so far, each with its text.
 #[derive(Drop)]
 pub struct Options<'a> {
-    place: Option<Text<'a>>,
-    allow: Option<Text<'a>>,
-    sandbox: Option<Text<'a>>,
+    place: OptionalText<'a>,
+    allow: OptionalText<'a>,
+    sandbox: OptionalText<'a>,
     fullscreen: bool,
     srcdoc: bool,
-    header: Option<Text<'a>>,
+    header: OptionalText<'a>,
 }
 
 impl<'a> Model for Options<'a> {
@@ -71,30 +72,30 @@ fn set_once(flag: &mut bool) -> bool
 }
 
 /// Puts a text into its place, unless one is there; answers whether none was.
-fn put_once<'a>(place: &mut Option<Text<'a>>, text: Text<'a>) -> bool
+fn put_once<'a>(place: &mut OptionalText<'a>, text: Text<'a>) -> bool
     ensures first { place.old ≡ None → (result ≡ true) × (place.new ≡ Some text.entry) }
-    ensures second { is_some place.old ≡ true → result ≡ false }
+    ensures second { is_some place.old ≡ true → (result ≡ false) × (place.new ≡ place.old) }
 {
     if place.is_some() {
         return false;
     }
-    *place = Some(text);
+    *place = OptionalText::of(text);
     true
 }
 
 /// The header with one more line behind it. `AllocError` where memory wants, which the first takes none of.
 fn header_behind<'a>(
     alloc: Global,
-    header: Option<Text<'a>>,
+    header: OptionalText<'a>,
     text: Text<'a>,
-) -> Result<Option<Text<'a>>, AllocError>
+) -> Result<OptionalText<'a>, AllocError>
     ensures { IfOk result (λ joined. joined ≡ header_behind header.entry text.entry) }
 {
-    match header {
-        None => Ok(Some(text)),
+    match header.into_text() {
+        None => Ok(OptionalText::of(text)),
         Some(before) => {
             let joined = Text::joined(alloc, before, b", ", text.as_slice())?;
-            Ok(Some(joined))
+            Ok(OptionalText::of(joined))
         }
     }
 }
@@ -105,12 +106,12 @@ impl<'a> Options<'a> {
         ensures { result ≡ no_options }
     {
         Options {
-            place: None,
-            allow: None,
-            sandbox: None,
+            place: OptionalText::none(),
+            allow: OptionalText::none(),
+            sandbox: OptionalText::none(),
             fullscreen: false,
             srcdoc: false,
-            header: None,
+            header: OptionalText::none(),
         }
     }
 
@@ -123,7 +124,11 @@ impl<'a> Options<'a> {
             OptionName::Allow => Ok(put_once(&mut self.allow, text)),
             OptionName::Sandbox => Ok(put_once(&mut self.sandbox, text)),
             OptionName::Header => {
-                self.header = header_behind(alloc, self.header.take(), text)?;
+                self.header = header_behind(
+                    alloc,
+                    replace(&mut self.header, OptionalText::none()),
+                    text,
+                )?;
                 Ok(true)
             }
         }
@@ -158,7 +163,7 @@ impl<'a> Options<'a> {
     }
 
     /// The header, where nothing else stands among the options.
-    pub fn only_header(self) -> Option<Option<Text<'a>>>
+    pub fn only_header(self) -> Option<OptionalText<'a>>
         ensures { result ≡ only_header self.entry }
     {
         if self.place.is_some() || self.allow.is_some() || self.sandbox.is_some() {
@@ -172,10 +177,10 @@ impl<'a> Options<'a> {
 
     /// The embedding of a source, or of none, in the document of a frame, where the options go together:
     /// a place goes with a source and without `srcdoc`, and a header without `srcdoc`.
-    pub fn embedding(self, parent: u32, src: Option<Text<'a>>) -> Result<Event<'a>, LineFault>
+    pub fn embedding(self, parent: u32, src: OptionalText<'a>) -> Result<Event<'a>, LineFault>
         ensures { Gives (embedding parent src.entry self.entry) result }
     {
-        if self.place.is_some() && (src.is_none() || self.srcdoc) {
+        if self.place.is_some() && (!src.is_some() || self.srcdoc) {
             return Err(LineFault::Syntax);
         }
         if self.header.is_some() && self.srcdoc {
@@ -216,7 +221,7 @@ pub fn read_options<'a>(alloc: Global, mut words: WordReader<'a>) -> Result<Opti
 
 /// The header that any number of `header TEXT` give, and none where there are none; `Syntax` where other
 /// words stand among them. `Memory` is taken only for escapes and several headers.
-pub fn read_headers<'a>(alloc: Global, words: WordReader<'a>) -> Result<Option<Text<'a>>, LineFault>
+pub fn read_headers<'a>(alloc: Global, words: WordReader<'a>) -> Result<OptionalText<'a>, LineFault>
     ensures { Gives (option_and_then headers words.entry.words) result }
 {
     let given = read_options(alloc, words)?;

@@ -2,7 +2,7 @@
 use crate::{LineFault, read_event};
 use pe_base::{InputKind, State};
 use pe_events::{AttrName, Event, EventLife, Outcome, Stamped};
-use pe_lines::Text;
+use pe_lines::{OptionalText, Text};
 use std::alloc::Global;
 use std::test::Fail;
 
@@ -14,9 +14,9 @@ fn put(out: &mut Vec<u8>, text: &[u8]) -> Result<(), Fail> {
 }
 
 /// The same of a text that may be missing; a missing one is `~`.
-fn put_option(out: &mut Vec<u8>, text: &Option<Text<'_>>) -> Result<(), Fail> {
-    match text {
-        Some(text) => put(out, text.as_slice()),
+fn put_option(out: &mut Vec<u8>, text: &OptionalText<'_>) -> Result<(), Fail> {
+    match text.get() {
+        Some(text) => put(out, text),
         None => put(out, b"~"),
     }
 }
@@ -45,7 +45,7 @@ fn put_text_or_none(
     alloc: Global,
     verb: &str,
     number: u32,
-    text: &Option<Text<'_>>,
+    text: &OptionalText<'_>,
 ) -> Result<(), Fail> {
     put_number(out, alloc, verb, number)?;
     put_option(out, text)

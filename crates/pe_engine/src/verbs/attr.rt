@@ -16,7 +16,7 @@ use pe_arena::Handle;
 use pe_base::{Millis, Steps};
 use pe_events::{Answer, AttrName};
 use pe_frames::Frames;
-use pe_lines::Text;
+use pe_lines::OptionalText;
 use std::sync::ledger::Ledger;
 
 /// Gives the frame this attribute.
@@ -36,7 +36,7 @@ impl Engine {
         now: Millis,
         frame: u32,
         name: AttrName,
-        value: &Option<Text<'_>>,
+        value: &OptionalText<'_>,
         steps: &mut Steps<L>,
     ) -> Result<Answer, Refusal>
         ensures { (H : History) → StandsFor self.old H → IsAnswer self.old self.new H (timed now (event.Attr frame name value.now)) result }

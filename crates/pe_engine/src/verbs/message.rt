@@ -32,7 +32,7 @@ use pe_delegation::{DeliverFault, Delivery};
 use pe_events::{Answer, Cause, Reason};
 use pe_features::Capability;
 use pe_frames::Frames;
-use pe_lines::Text;
+use pe_lines::OptionalText;
 use pe_origin::Origin;
 use std::alloc::AllocError;
 use std::sync::ledger::Ledger;
@@ -139,7 +139,7 @@ impl Engine {
         now: Millis,
         sender: u32,
         target: u32,
-        named: &Option<Text<'_>>,
+        named: &OptionalText<'_>,
         capability: &[u8],
         steps: &mut Steps<L>,
     ) -> Result<Posting, Refusal>
@@ -265,7 +265,7 @@ impl Engine {
         now: Millis,
         sender: u32,
         target: u32,
-        named: &Option<Text<'_>>,
+        named: &OptionalText<'_>,
         capability: &[u8],
         steps: &mut Steps<L>,
     ) -> Result<Replies, Refusal>

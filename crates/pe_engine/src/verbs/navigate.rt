@@ -20,12 +20,11 @@ use crate::making::{child_row, top_row};
 use crate::refusal::Refusal;
 use crate::replies::Replies;
 use crate::row::{Attributes, Row};
-use crate::verbs::open::bytes_of;
 use pe_arena::Handle;
 use pe_base::{DocNo, Millis, Steps};
 use pe_events::Answer;
 use pe_frames::Frames;
-use pe_lines::Text;
+use pe_lines::{OptionalText, Text};
 use pe_origin::Place;
 use std::alloc::AllocError;
 use std::mem::replace;
@@ -99,7 +98,7 @@ impl Engine {
         now: Millis,
         frame: u32,
         url: &Text<'_>,
-        header: &Option<Text<'_>>,
+        header: &OptionalText<'_>,
         steps: &mut Steps<L>,
     ) -> Result<Replies, Refusal>
         ensures { (H : History) → StandsFor self.old H → IsReplied self.old self.new H (timed now (event.Navigate frame url.now header.now)) result }
@@ -110,7 +109,7 @@ impl Engine {
             Ok(place) => place,
             Err(refusal) => return Err(refusal),
         };
-        let Ok(mut row) = self.next_row(number, h, place, bytes_of(header), steps) else {
+        let Ok(mut row) = self.next_row(number, h, place, header.get(), steps) else {
             return Err(Refusal::Memory);
         };
         let origin = row.origin.copy()?;

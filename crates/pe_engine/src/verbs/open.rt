@@ -1,6 +1,5 @@
 //! `open` and `embed`: pages are opened, and frames embedded.
 ghost use Rattle.std.specs.Prelude.{◌≡◌, ◌+◌, ◌-◌, ◌^◌, ◌<◌, ◌≤◌, [], IfOk, OnOk, IsSome, Some, None, List, Bool, Option, ℕ, length, unwrap_or};
-ghost use Rattle.std.specs.Option.{option_copied};
 ghost use Rattle.pe_base.specs.declared.limits.TheConstants.{EVENT_LIMIT};
 ghost use Rattle.pe_events.specs.declared.answer.Answer.TheVariants as answer;
 ghost use Rattle.pe_events.specs.declared.event.Event.TheVariants as event;
@@ -24,20 +23,10 @@ use crate::row::{Attributes, Row};
 use pe_arena::Handle;
 use pe_base::{DEPTH_LIMIT, DocNo, FRAME_LIMIT, FrameNo, Millis, PAGE_LIMIT, Steps};
 use pe_events::{Answer, Cause};
-use pe_lines::Text;
+use pe_lines::{OptionalText, Text};
 use pe_origin::{Origin, Place, PlaceKind};
 use std::alloc::AllocError;
 use std::sync::ledger::Ledger;
-
-/// The bytes of a text, where there is one.
-pub(crate) fn bytes_of<'a>(text: &'a Option<Text<'_>>) -> Option<&'a [u8]>
-    ensures { option_copied result ≡ text.now }
-{
-    match text {
-        Some(text) => Some(text.as_slice()),
-        None => None,
-    }
-}
 
 /// That a frame and its document, both of this number, were made.
 fn frame_made(number: u32, origin: Origin) -> Answer
@@ -102,7 +91,7 @@ impl Engine {
         &mut self,
         now: Millis,
         url: &Text<'_>,
-        header: &Option<Text<'_>>,
+        header: &OptionalText<'_>,
     ) -> Result<Answer, Refusal>
         ensures { (H : History) → StandsFor self.old H → IsAnswer self.old self.new H (timed now (event.OpenPage url.now header.now)) result }
     {
@@ -115,7 +104,7 @@ impl Engine {
         if self.frames.pages() >= PAGE_LIMIT {
             return Err(Refusal::For(Cause::LimitPages));
         }
-        let Ok(row) = top_row(self.alloc, number, place, bytes_of(header)) else {
+        let Ok(row) = top_row(self.alloc, number, place, header.get()) else {
             return Err(Refusal::Memory);
         };
         let origin = row.origin.copy()?;
@@ -180,8 +169,8 @@ impl Engine {
         &self,
         now: Millis,
         parent: u32,
-        src: &Option<Text<'_>>,
-        place: &Option<Text<'_>>,
+        src: &OptionalText<'_>,
+        place: &OptionalText<'_>,
         steps: &mut Steps<L>,
     ) -> Result<Embedding, Refusal>
         ensures lookup { IfOk result (IsEmbedding self.now parent src.now place.now) }
@@ -217,13 +206,13 @@ impl Engine {
         &mut self,
         now: Millis,
         parent: u32,
-        src: &Option<Text<'_>>,
-        place: &Option<Text<'_>>,
-        allow: &Option<Text<'_>>,
-        sandbox: &Option<Text<'_>>,
+        src: &OptionalText<'_>,
+        place: &OptionalText<'_>,
+        allow: &OptionalText<'_>,
+        sandbox: &OptionalText<'_>,
         fullscreen: bool,
         srcdoc: bool,
-        header: &Option<Text<'_>>,
+        header: &OptionalText<'_>,
         steps: &mut Steps<L>,
     ) -> Result<Answer, Refusal>
         ensures { (H : History) → StandsFor self.old H
@@ -248,7 +237,7 @@ impl Engine {
             found.number,
             found.place,
             srcdoc,
-            bytes_of(header),
+            header.get(),
             &attributes,
         ) else {
             return Err(Refusal::Memory);

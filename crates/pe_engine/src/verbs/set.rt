@@ -25,7 +25,7 @@ use pe_base::{Millis, STORE_LIMIT, State, Steps};
 use pe_changes::changes_of_setting;
 use pe_events::{Answer, Cause, Change};
 use pe_features::{Feature, KeyKind};
-use pe_lines::Text;
+use pe_lines::{OptionalText, Text};
 use pe_origin::Origin;
 use pe_store::{Key, Life, StoreFault};
 use std::alloc::{AllocError, Global};
@@ -49,12 +49,12 @@ fn origin_named(alloc: Global, word: &[u8]) -> Result<Origin, Refusal>
 /// The tuple origin of an origin word, where there is one.
 pub(crate) fn origin_given(
     alloc: Global,
-    word: &Option<Text<'_>>,
+    word: &OptionalText<'_>,
 ) -> Result<Option<Origin>, Refusal>
     ensures { GivesOriginOrNone word.now result }
 {
-    match word {
-        Some(word) => match origin_named(alloc, word.as_slice()) {
+    match word.get() {
+        Some(word) => match origin_named(alloc, word) {
             Ok(origin) => Ok(Some(origin)),
             Err(refusal) => Err(refusal),
         },
@@ -86,7 +86,7 @@ fn pair_named(
     alloc: Global,
     feature: &[u8],
     first: &[u8],
-    second: &Option<Text<'_>>,
+    second: &OptionalText<'_>,
 ) -> Result<(Feature, Key), Refusal>
     ensures { GivesPair feature.now first.now second.now result }
 {
@@ -182,7 +182,7 @@ impl Engine {
         now: Millis,
         feature: &Text<'_>,
         first: &Text<'_>,
-        second: &Option<Text<'_>>,
+        second: &OptionalText<'_>,
         state: State,
         span: Option<u64>,
         steps: &mut Steps<L>,

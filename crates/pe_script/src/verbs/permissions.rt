@@ -11,7 +11,7 @@ use crate::reading::LineFault;
 use crate::words::one;
 use pe_base::State;
 use pe_events::{Event, EventLife, Outcome};
-use pe_lines::{Text, WordReader, WordSpan};
+use pe_lines::{OptionalText, Text, WordReader, WordSpan};
 use std::alloc::{AllocError, Global};
 
 /// `drop S`.
@@ -178,12 +178,12 @@ fn span_given(span: Option<(WordSpan<'_>, WordSpan<'_>)>) -> Option<Option<u64>>
 }
 
 /// The text of a word that may be there.
-fn text_given<'a>(alloc: Global, word: Option<WordSpan<'a>>) -> Result<Option<Text<'a>>, AllocError>
+fn text_given<'a>(alloc: Global, word: Option<WordSpan<'a>>) -> Result<OptionalText<'a>, AllocError>
     ensures { IfOk result (λ text. text ≡ option_map (λ (w : Word). w.text) word.entry) }
 {
     match word {
-        Some(word) => Ok(Some(word.text(alloc)?)),
-        None => Ok(None),
+        Some(word) => Ok(OptionalText::of(word.text(alloc)?)),
+        None => Ok(OptionalText::none()),
     }
 }
 

@@ -68,7 +68,7 @@ returns g c = λ H s.
     ∙ ap (λ (a : Attributes). navigated h (record x { attributes = a }) e.frames.entries) taken.0 in
     let shown = c.row-2.ensures.shown H f s c.in_ok-number.ensures.handle in
     let (says, tree) = navigation laws.history e H c.args.now c.in_ok-number.number f c.args.url.now c.args.header.now h y x N s c.in_ok-number.ensures.number c.in_ok-number.ensures.handle found c.in-Ok-next_row.ensures.new
-    (λ item. subst (λ o. IsSettled (record { time = c.args.now; event = event.Navigate f c.args.url.now o; item = item } ∷ T) x) c.bytes_of.ensures (c.in-Ok-next_row.ensures.settled H c.args.now f c.args.url.now item s c.in_ok-number.ensures.handle named c.in_ok-number.ensures.number))
+    (λ item. subst (λ o. IsSettled (record { time = c.args.now; event = event.Navigate f c.args.url.now o; item = item } ∷ T) x) c.get.ensures (c.in-Ok-next_row.ensures.settled H c.args.now f c.args.url.now item s c.in_ok-number.ensures.handle named c.in_ok-number.ensures.number))
     entries (c.in-Ok-navigate.ensures.marks ∙ ap (λ (w : Forest Row). w.marks) taken.1) in
     let has = has-ended e p _ c.leave.new.self c.note.new.self c.args.now made.Doc N c.in_ok-before.ensures.rest (ap (λ (w : EngineValue). record w { frames = N }) c.self-2.view_is) c.in_ok-after.ensures.rest c.in_ok-note.ensures.ok in
     let of-frame = node-at T e.made e.frames f h y s.steps.tree c.in_ok-number.ensures.handle found in
