@@ -10,3 +10,4 @@ pub mod Digits
 pub mod Texts
 pub mod Runs
 pub mod Last
+pub mod ClassTable

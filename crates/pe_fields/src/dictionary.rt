@@ -36,6 +36,13 @@ impl<'a> Dictionary<'a> {
     {
         last(self.members.as_slice(), key)
     }
+
+    /// The keys with their members, in their order and with repeats.
+    pub fn entries(&self) -> &[(Lent<'a>, Member<'a>)]
+        ensures { result.now ≡ self.now }
+    {
+        self.members.as_slice()
+    }
 }
 
 /// The last of the members under a key, looked for from the last member on.

@@ -1,3 +1,4 @@
 pub mod HeaderLaws
+pub mod MemberLaws
 pub mod OnLiterals
 mod Rows

@@ -1,1 +1,2 @@
 pub mod DeclaredPolicy
+pub mod Members
