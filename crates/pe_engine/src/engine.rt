@@ -3,8 +3,8 @@ ghost use Rattle.std.specs.Prelude.{◌≡◌, ◌+◌, ◌-◌, ◌^◌, ◌<�
 ghost use Rattle.pe_base.specs.declared.limits.TheConstants.{EVENT_LIMIT};
 ghost use Rattle.pe_engine.specs.Objects.{handle_at};
 
+use crate::kept_row::KeptRow;
 use crate::laws::engine_laws;
-use crate::row::Row;
 use pe_arena::Handle;
 use pe_base::Millis;
 use pe_delegation::Messages;
@@ -40,7 +40,7 @@ pub struct Engine {
     pub(crate) clock: Millis,
     pub(crate) failed: bool,
     pub(crate) made: Vec<Made>,
-    pub(crate) frames: Frames<Row>,
+    pub(crate) frames: Frames<KeptRow>,
     pub(crate) store: Store,
     pub(crate) statuses: Statuses,
     pub(crate) prompts: Prompts,

@@ -12,7 +12,7 @@ ghost use Rattle.pe_engine.specs.Leaving.{numbers_of, without_documents};
 ghost use Rattle.pe_engine.specs.Rows.{blocks};
 
 use crate::engine::Engine;
-use crate::row::Row;
+use crate::kept_row::KeptRow;
 use pe_base::{DocNo, Millis, Steps};
 use pe_changes::changes_of_end;
 use pe_events::Change;
@@ -22,22 +22,22 @@ use std::alloc::AllocError;
 use std::sync::ledger::Ledger;
 
 /// Ends the statuses of these documents.
-fn end_statuses(statuses: &mut Statuses, gone: &[Row])
+fn end_statuses(statuses: &mut Statuses, gone: &[KeptRow])
     ensures live { statuses.new.live ≡ without_documents (numbers_of gone.now) statuses.old.live }
     ensures given { statuses.new.given ≡ statuses.old.given }
 {
     for row in gone {
-        statuses.gone(row.doc);
+        statuses.gone(row.get().doc);
     }
 }
 
 /// Drops the requests of these documents.
-fn drop_requests(prompts: &mut Prompts, gone: &[Row])
+fn drop_requests(prompts: &mut Prompts, gone: &[KeptRow])
     ensures given { prompts.new.given ≡ prompts.old.given }
     ensures pending { (page : ℕ) → pending prompts.new page ≡ left_by_all (numbers_of gone.now) (pending prompts.old page) }
 {
     for row in gone {
-        prompts.gone(row.doc);
+        prompts.gone(row.get().doc);
     }
 }
 
@@ -48,7 +48,7 @@ impl Engine {
     pub(crate) fn leave<L: Ledger>(
         &mut self,
         first: DocNo,
-        gone: &[Row],
+        gone: &[KeptRow],
         now: Millis,
         steps: &mut Steps<L>,
     ) -> Result<Vec<Change>, AllocError>

@@ -4,6 +4,7 @@
 mod attribute;
 mod decision;
 mod engine;
+mod kept_row;
 mod laws;
 mod leaving;
 mod making;

@@ -14,6 +14,7 @@ ghost use Rattle.pe_policy.specs.PolicyValue.{IsPolicyOf};
 ghost use Rattle.pe_rules.specs.Origins.{origin_of_place, is_blank_kind, sandboxes_origin, declared_by_place};
 ghost use Rattle.pe_engine.specs.Making.{top_of, sandboxes, child_origin, kept_declared, declared_by_kept, IsLinkOf, IsContainedBy, IsTopRow, IsChildRow};
 
+use crate::kept_row::KeptRow;
 use crate::row::{Attributes, Delivered, Row};
 use pe_allowlist::{Container, DeclaredOrigin, is_whitespace, read_allow};
 use pe_base::{Bytes, DocNo, EVENT_LIMIT, Stamp};
@@ -217,7 +218,7 @@ fn pair_key(single: &Key, own: &Origin) -> Result<Key, AllocError>
 }
 
 /// The row of a top document, with no attributes yet. `AllocError` where memory wants.
-pub(crate) fn top_row(
+fn new_top(
     alloc: Global,
     number: u32,
     place: Place,
@@ -249,9 +250,26 @@ pub(crate) fn top_row(
     })
 }
 
+/// The row of a top document, with no attributes yet, as the tree keeps it. `AllocError` where memory wants.
+pub(crate) fn top_row(
+    alloc: Global,
+    number: u32,
+    place: Place,
+    header: Option<&[u8]>,
+) -> Result<KeptRow, AllocError>
+    requires low { 1 ≤ number }
+    requires high { number ≤ EVENT_LIMIT }
+    ensures { IfOk result (IsTopRow number place (option_copied header.entry)) }
+{
+    let Ok(row) = new_top(alloc, number, place, header) else {
+        return Err(AllocError);
+    };
+    KeptRow::of(alloc, row)
+}
+
 /// The row of a document that is embedded in another with these attributes, which it does not have yet.
 /// `AllocError` where memory wants.
-pub(crate) fn child_row(
+fn new_child(
     alloc: Global,
     embedder: &Row,
     number: u32,
@@ -284,4 +302,25 @@ pub(crate) fn child_row(
         attributes: Attributes::none(),
         policy,
     })
+}
+
+/// The row of a document that is embedded in another with these attributes, which it does not have yet, as
+/// the tree keeps it. `AllocError` where memory wants.
+pub(crate) fn child_row(
+    alloc: Global,
+    embedder: &Row,
+    number: u32,
+    place: Place,
+    srcdoc: bool,
+    header: Option<&[u8]>,
+    attributes: &Attributes,
+) -> Result<KeptRow, AllocError>
+    requires low { 1 ≤ number }
+    requires high { number ≤ EVENT_LIMIT }
+    ensures { IfOk result (IsChildRow embedder.now number place srcdoc (option_copied header.entry) attributes.now) }
+{
+    let Ok(row) = new_child(alloc, embedder, number, place, srcdoc, header, attributes) else {
+        return Err(AllocError);
+    };
+    KeptRow::of(alloc, row)
 }

@@ -87,6 +87,6 @@ impl Engine {
         ensures shown { (H : History) (f : ℕ) → StandsFor self.now H → handle_at self.now.made f ≡ Some h → IsShown (replied self.now.duration H) f result.now }
         ensures cost { steps.new ≡ steps.old + 1 }
     {
-        &self.frames.node(h, steps).unwrap().doc
+        self.frames.node(h, steps).unwrap().doc.get()
     }
 }

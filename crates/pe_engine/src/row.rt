@@ -1,17 +1,10 @@
 //! The row of a document, and the attributes of its frame.
-ghost use Rattle.std.specs.Prelude.{◌≡◌, refl};
-ghost use Rattle.pe_activation.specs.Stamps.{IsField};
-ghost use Rattle.pe_origin.specs.Origins.{is_same_origin};
-ghost use Rattle.pe_engine.specs.Origins.{same_as_itself};
+ghost use Rattle.std.specs.Prelude.{◌≡◌};
 ghost use Rattle.pe_engine.specs.Rows.{no_kept_attributes, blocks, no_deliveries, delivery_time, with_delivery};
 
-use pe_activation::Activatable;
 use pe_base::{Bytes, DocNo, Millis, Stamp};
-use pe_changes::Governed;
-use pe_delegation::Addressed;
 use pe_features::{Capability, Feature};
-use pe_frames::Numbered;
-use pe_origin::{Origin, Place, same_origin};
+use pe_origin::{Origin, Place};
 use pe_policy::Policy;
 use pe_store::Key;
 
@@ -123,72 +116,12 @@ impl Delivered {
     }
 }
 
-impl Numbered for Row {
-    ghost doc_no = { λ x. x.doc };
-
-    fn number(&self) -> DocNo {
-        self.doc
-    }
-}
-
-impl Addressed for Row {
-    ghost origin_of = { λ x. x.origin };
-
-    fn origin(&self) -> &Origin {
-        &self.origin
-    }
-}
-
-impl Governed for Row {
-    ghost blocks_feature = { blocks };
-
-    fn is_blocked(&self, feature: Feature) -> bool {
+impl Row {
+    /// Whether its document is denied the feature whatever is stored: it is in no secure context, or its
+    /// policy denies the feature.
+    pub(crate) fn is_blocked(&self, feature: Feature) -> bool
+        ensures { result ≡ blocks self.now feature }
+    {
         !self.secure || self.policy.why(feature).is_some()
     }
-}
-
-impl Activatable for Row {
-    ghost stamp_of = { λ x. x.stamp };
-
-    ghost second_of = { λ x. x.second };
-
-    ghost with_stamp = { λ s x. record x { stamp = s } };
-
-    ghost with_second = { λ s x. record x { second = s } };
-
-    ghost is_same_origin = { λ x y. is_same_origin x.origin y.origin };
-
-    fn stamp(&self) -> Stamp {
-        self.stamp
-    }
-
-    fn set_stamp(&mut self, stamp: Stamp) {
-        self.stamp = stamp;
-    }
-
-    fn second(&self) -> Stamp {
-        self.second
-    }
-
-    fn set_second(&mut self, stamp: Stamp) {
-        self.second = stamp;
-    }
-
-    fn same_origin(&self, other: &Row) -> bool {
-        same_origin(&self.origin, &other.origin)
-    }
-
-    ghost stamp_is_a_field = { record { set_is_read = λ s d. refl; read_is_set = λ d. refl; last_counts = λ s t d. refl } };
-
-    ghost second_is_a_field = { record { set_is_read = λ s d. refl; read_is_set = λ d. refl; last_counts = λ s t d. refl } };
-
-    ghost second_stays = { λ s d. refl };
-
-    ghost stamp_stays = { λ s d. refl };
-
-    ghost number_stays = { λ s d. (refl, refl) };
-
-    ghost origin_stays = { λ s d e. (refl, refl, refl, refl) };
-
-    ghost same_as_itself = { λ d. same_as_itself d.origin };
 }

@@ -93,7 +93,7 @@ fn makes_fresh(alloc: Global) -> Option<bool> {
         return None;
     };
     match top_row(alloc, 1, place, None) {
-        Ok(row) => Some(is_fresh(&row)),
+        Ok(row) => Some(is_fresh(row.get())),
         Err(_) => None,
     }
 }

@@ -16,7 +16,6 @@ use crate::row::{Delivered, Row};
 use crate::verbs::policy::why_denied;
 use pe_activation::{sticky, transient};
 use pe_base::{Millis, State};
-use pe_changes::Governed;
 use pe_delegation::active;
 use pe_events::{Reason, Verdict, Via};
 use pe_features::{Capability, Feature, Gate, KeyKind, Need};

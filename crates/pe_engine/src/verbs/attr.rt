@@ -9,9 +9,9 @@ ghost use Rattle.pe_engine.specs.StandsFor.{StandsFor};
 
 use crate::attribute::{Attribute, attribute_given};
 use crate::engine::{Engine, Made};
+use crate::kept_row::KeptRow;
 use crate::laws::engine_laws;
 use crate::refusal::Refusal;
-use crate::row::Row;
 use pe_arena::Handle;
 use pe_base::{Millis, Steps};
 use pe_events::{Answer, AttrName};
@@ -20,11 +20,16 @@ use pe_lines::OptionalText;
 use std::sync::ledger::Ledger;
 
 /// Gives the frame this attribute.
-fn give<L: Ledger>(frames: &mut Frames<Row>, h: Handle, attribute: Attribute, steps: &mut Steps<L>)
+fn give<L: Ledger>(
+    frames: &mut Frames<KeptRow>,
+    h: Handle,
+    attribute: Attribute,
+    steps: &mut Steps<L>,
+)
     ensures { IfSome (entry_of frames.old.entries h) (λ e. frames.new ≡ with_doc frames.old h (record e.doc { attributes = with_attribute attribute e.doc.attributes })) }
 {
     if let Some(row) = frames.doc_mut(h, steps) {
-        row.attributes.give(attribute);
+        row.give(attribute);
     }
 }
 

@@ -7,7 +7,7 @@ ghost use Rattle.pe_engine.specs.StandsFor.{StandsFor};
 use crate::engine::{Engine, Made};
 use crate::laws::engine_laws;
 use crate::refusal::Refusal;
-use pe_activation::{Activatable, consume_history, history_active};
+use pe_activation::{consume_history, history_active};
 use pe_base::{Millis, Steps};
 use pe_events::{Answer, Reason};
 use std::sync::ledger::Ledger;
@@ -26,7 +26,7 @@ impl Engine {
         engine_laws();
         let (_, h) = self.next_in(now, frame)?;
         let row = self.row(h, steps);
-        if !history_active(row.stamp(), row.second()) {
+        if !history_active(row.stamp, row.second) {
             self.note(now, Made::Nothing)?;
             return Ok(Answer::Denied {
                 reason: Reason::NoHistory,

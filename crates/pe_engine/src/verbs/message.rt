@@ -19,13 +19,13 @@ ghost use Rattle.pe_engine.specs.Replying.{timed, steps_of, IsChecked, IsReplied
 ghost use Rattle.pe_engine.specs.StandsFor.{StandsFor};
 
 use crate::engine::{Engine, Made};
+use crate::kept_row::KeptRow;
 use crate::laws::engine_laws;
 use crate::refusal::Refusal;
 use crate::replies::Replies;
-use crate::row::Row;
 use crate::verbs::policy::why_denied;
 use crate::verbs::set::origin_given;
-use pe_activation::{Activatable, consume, transient};
+use pe_activation::{consume, transient};
 use pe_arena::{DocRef, Handle};
 use pe_base::{EVENT_LIMIT, FrameNo, MESSAGE_LIMIT, MessageNo, Millis, Steps};
 use pe_delegation::{DeliverFault, Delivery};
@@ -88,7 +88,7 @@ fn answer_by_delivery(delivery: Delivery) -> Answer
 
 /// Notes the time of a delivery in the row of the document that it gives a capability.
 fn receive<L: Ledger>(
-    frames: &mut Frames<Row>,
+    frames: &mut Frames<KeptRow>,
     delivery: &Delivery,
     now: Millis,
     steps: &mut Steps<L>,
@@ -100,7 +100,7 @@ fn receive<L: Ledger>(
         return;
     };
     if let Some(row) = frames.doc_mut(target.at, steps) {
-        row.delivered.note(*capability, Some(now));
+        row.note(*capability, Some(now));
     }
 }
 
@@ -203,7 +203,7 @@ impl Engine {
         if let Some(denial) = why_denied(&row.policy, capability.feature_of()) {
             return Some(Reason::Policy(denial));
         }
-        if !transient(row.stamp(), now, self.duration) {
+        if !transient(row.stamp, now, self.duration) {
             return Some(Reason::NoTransient);
         }
         None

@@ -15,6 +15,7 @@ ghost use Rattle.pe_engine.specs.StandsFor.{StandsFor};
 
 use crate::attribute::place_named;
 use crate::engine::{Engine, Made};
+use crate::kept_row::KeptRow;
 use crate::laws::engine_laws;
 use crate::making::{child_row, top_row};
 use crate::refusal::Refusal;
@@ -27,12 +28,11 @@ use pe_frames::Frames;
 use pe_lines::{OptionalText, Text};
 use pe_origin::Place;
 use std::alloc::AllocError;
-use std::mem::replace;
 use std::sync::ledger::Ledger;
 
 /// Takes the attributes out of the row of a live frame, and leaves none.
 fn take_attributes<L: Ledger>(
-    frames: &mut Frames<Row>,
+    frames: &mut Frames<KeptRow>,
     h: Handle,
     steps: &mut Steps<L>,
 ) -> Attributes
@@ -41,7 +41,7 @@ fn take_attributes<L: Ledger>(
     ensures made { frames.new.made ≡ frames.old.made }
 {
     match frames.doc_mut(h, steps) {
-        Some(row) => replace(&mut row.attributes, Attributes::none()),
+        Some(row) => row.take_attributes(),
         None => Attributes::none(),
     }
 }
@@ -59,7 +59,7 @@ impl Engine {
         let Some(node) = self.frames.node(parent, steps) else {
             return None;
         };
-        Some(&node.doc)
+        Some(node.doc.get())
     }
 
     /// The row of the next document of a live frame, with no attributes yet.
@@ -70,7 +70,7 @@ impl Engine {
         place: Place,
         header: Option<&[u8]>,
         steps: &mut Steps<L>,
-    ) -> Result<Row, AllocError>
+    ) -> Result<KeptRow, AllocError>
         requires low { 1 ≤ number }
         requires few { number ≤ EVENT_LIMIT }
         requires live { IsSome (entry_of self.now.frames.entries h) }
@@ -112,10 +112,10 @@ impl Engine {
         let Ok(mut row) = self.next_row(number, h, place, header.get(), steps) else {
             return Err(Refusal::Memory);
         };
-        let origin = row.origin.copy()?;
+        let origin = row.get().origin.copy()?;
         let first = self.row(h, steps).doc;
         let before = self.pass(now, steps)?;
-        row.attributes = take_attributes(&mut self.frames, h, steps);
+        row.set_attributes(take_attributes(&mut self.frames, h, steps));
         self.frames.is_counted_in_tree_order();
         let Ok(gone) = self.frames.navigate(h, row) else {
             return Err(Refusal::Memory);

@@ -16,10 +16,11 @@ ghost use Rattle.pe_engine.specs.StandsFor.{StandsFor};
 
 use crate::attribute::{place_given, place_named, value_given};
 use crate::engine::{Engine, Made};
+use crate::kept_row::KeptRow;
 use crate::laws::engine_laws;
 use crate::making::{child_row, top_row};
 use crate::refusal::Refusal;
-use crate::row::{Attributes, Row};
+use crate::row::Attributes;
 use pe_arena::Handle;
 use pe_base::{DEPTH_LIMIT, DocNo, FRAME_LIMIT, FrameNo, Millis, PAGE_LIMIT, Steps};
 use pe_events::{Answer, Cause};
@@ -107,13 +108,13 @@ impl Engine {
         let Ok(row) = top_row(self.alloc, number, place, header.get()) else {
             return Err(Refusal::Memory);
         };
-        let origin = row.origin.copy()?;
+        let origin = row.get().origin.copy()?;
         self.add_page(now, number, row)?;
         Ok(frame_made(number, origin))
     }
 
     /// Adds a page whose top frame has this number, and shows the document of this row.
-    fn add_page(&mut self, now: Millis, number: u32, row: Row) -> Result<(), AllocError>
+    fn add_page(&mut self, now: Millis, number: u32, row: KeptRow) -> Result<(), AllocError>
         requires number { number ≡ length self.old.made + 1 }
         requires few { number ≤ EVENT_LIMIT }
         ensures { OnOk result (HasOpened self.old self.new now [] number row) }
@@ -133,7 +134,7 @@ impl Engine {
         now: Millis,
         parent: Handle,
         number: u32,
-        row: Row,
+        row: KeptRow,
     ) -> Result<(), AllocError>
         requires number { number ≡ length self.old.made + 1 }
         requires few { number ≤ EVENT_LIMIT }
@@ -242,8 +243,8 @@ impl Engine {
         ) else {
             return Err(Refusal::Memory);
         };
-        row.attributes = attributes;
-        let origin = row.origin.copy()?;
+        row.set_attributes(attributes);
+        let origin = row.get().origin.copy()?;
         self.add_child(now, found.at, found.number, row)?;
         Ok(frame_made(found.number, origin))
     }

@@ -269,7 +269,7 @@ impl Engine {
         engine_laws();
         let h = self.handle(page.get())?;
         let node = self.frames.node(h, steps)?;
-        Some(node.doc.doc)
+        Some(node.doc.get().doc)
     }
 
     /// Whether a dismissal of a pair at a time that is not before the clock is an embargo.

@@ -11,7 +11,7 @@ use crate::engine::{Engine, Made};
 use crate::laws::engine_laws;
 use crate::refusal::Refusal;
 use crate::row::Row;
-use pe_activation::{Activatable, sticky, transient};
+use pe_activation::{sticky, transient};
 use pe_base::{Millis, Steps};
 use pe_events::Answer;
 use std::sync::ledger::Ledger;
@@ -22,8 +22,8 @@ fn activity(row: &Row, now: Millis, duration: u32) -> Answer
     ensures { result ≡ answer.Activity (is_sticky row.now.stamp) (is_transient duration now row.now.stamp) }
 {
     Answer::Activity {
-        sticky: sticky(row.stamp()),
-        transient: transient(row.stamp(), now, duration),
+        sticky: sticky(row.stamp),
+        transient: transient(row.stamp, now, duration),
     }
 }
 

@@ -11,9 +11,9 @@ ghost use Rattle.pe_engine.specs.StandsFor.{StandsFor};
 ghost use Rattle.pe_engine.specs.Using.{HasTaken};
 
 use crate::engine::{Engine, Made};
+use crate::kept_row::KeptRow;
 use crate::laws::engine_laws;
 use crate::refusal::Refusal;
-use crate::row::Row;
 use pe_activation::consume;
 use pe_arena::Handle;
 use pe_base::{Millis, Steps};
@@ -25,7 +25,7 @@ use std::sync::ledger::Ledger;
 /// Spends the capability in the document that the frame shows (Capability Delegation, "delegated
 /// capability").
 fn spend<L: Ledger>(
-    frames: &mut Frames<Row>,
+    frames: &mut Frames<KeptRow>,
     h: Handle,
     capability: Capability,
     steps: &mut Steps<L>,
@@ -34,14 +34,14 @@ fn spend<L: Ledger>(
     ensures cost { steps.new ≡ steps.old + 1 }
 {
     if let Some(row) = frames.doc_mut(h, steps) {
-        row.delivered.note(capability, None);
+        row.note(capability, None);
     }
 }
 
 /// Takes what a use of this verdict takes in the live frame of this handle: what met it, the page's
 /// transient activation, where the call consumes it, or the capability.
 fn take<L: Ledger>(
-    frames: &mut Frames<Row>,
+    frames: &mut Frames<KeptRow>,
     h: Handle,
     gate: Gate,
     verdict: &Verdict,

@@ -31,5 +31,5 @@ returns g c = λ H s.
     let a : Attributes = record { src = x.src; srcdoc = c.args.srcdoc; allow = c.in_ok-value_given.field-0; sandbox = c.in_ok-value_given-2.field-0; fullscreen = c.args.fullscreen } in
     let given : a ≡ kept_attributes (record { src = c.args.src.now; srcdoc = c.args.srcdoc; allow = c.args.allow.now; sandbox = c.args.sandbox.now; fullscreen = c.args.fullscreen }) = rw (lookup.src_is, c.in_ok-value_given.ensures, c.in_ok-value_given-2.ensures) refl in
     let row = subst (λ r. IsChildRow r x.number x.place c.args.srcdoc c.args.header.now a c.in-Ok-child_row.row) (sym doc) (subst (λ o. IsChildRow c.row-row.result.now x.number x.place c.args.srcdoc o a c.in-Ok-child_row.row) c.get.ensures c.in-Ok-child_row.ensures) in
-    rw (c.frame_made.ensures, c.in_ok-origin.ensures) (accept-embed c.engine_laws.ensures e c.add_child.new.self H c.args.now x.number c.args.parent c.args.src.now c.args.place.now c.args.allow.now c.args.sandbox.now c.args.fullscreen c.args.srcdoc c.args.header.now
-    x.at y x.place a c.in-Ok-child_row.row s lookup.number lookup.handle found (sym lookup.place_is) given none row c.in_ok-add_child.ensures)
+    rw (c.frame_made.ensures, c.in_ok-origin.ensures, c.get-2.ensures, c.set_attributes.ensures) (accept-embed c.engine_laws.ensures e c.add_child.new.self H c.args.now x.number c.args.parent c.args.src.now c.args.place.now c.args.allow.now c.args.sandbox.now c.args.fullscreen c.args.srcdoc c.args.header.now
+    x.at y x.place a c.in-Ok-child_row.row s lookup.number lookup.handle found (sym lookup.place_is) given none row (rw c.set_attributes.ensures at c.in_ok-add_child.ensures))

@@ -25,6 +25,6 @@ pub returns : goal.returns
 returns g c = λ H f s at live.
     let e = c.args.self.now in
     let (y, found) = some-of (entry_of e.frames.entries c.args.h) live in
-    some-embedder c.engine_laws.ensures.history e H f c.args.h c.in-Some.parent y c.in-Some-node.node.now s at found
+    rw c.get.ensures (some-embedder c.engine_laws.ensures.history e H f c.args.h c.in-Some.parent y c.in-Some-node.node.now s at found
     (parent-is (entry_of e.frames.entries c.args.h) y (Some c.in-Some.parent) (ap (λ (v : EngineValue). option_and_then parent_of (entry_of v.frames.entries c.args.h)) (sym c.self.view_is) ∙ sym c.parent.ensures ∙ c.in-Some.is) found)
-    (ap (λ (v : EngineValue). node_of v.frames.entries c.in-Some.parent) (sym c.self.view_is) ∙ sym c.node.ensures.value ∙ ap option_copied c.in-Some-node.is)
+    (ap (λ (v : EngineValue). node_of v.frames.entries c.in-Some.parent) (sym c.self.view_is) ∙ sym c.node.ensures.value ∙ ap option_copied c.in-Some-node.is))

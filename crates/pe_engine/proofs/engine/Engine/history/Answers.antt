@@ -26,7 +26,7 @@ returns-then-not-history_active g c = λ H s.
     let T = replied e.duration H in
     let x = c.row-row.result.now in
     let shown = c.row-row.ensures.shown H c.args.frame s c.in_ok-h.ensures.handle in
-    let active : is_history_active x.stamp x.second ≡ false = sym (c.history_active.ensures ∙ ap (λ t. is_history_active t c.second.result) c.stamp.ensures ∙ ap (is_history_active x.stamp) c.second.ensures) ∙ c.if-not-history_active.true in
+    let active : is_history_active x.stamp x.second ≡ false = sym c.history_active.ensures ∙ c.if-not-history_active.true in
     let says : answer_of e.duration T c.args.now (event.History c.args.frame) ≡ answer.Denied reason.NoHistory = history-answer c.engine_laws.ensures.history e.duration T c.args.now c.args.frame x shown ∙ ap answer_of_history_action active in
     accept-silent c.engine_laws.ensures e c.note.new.self H (timed c.args.now (event.History c.args.frame)) (answer.Denied reason.NoHistory) refl
     (silent-history e.duration T c.args.now c.args.frame says) s (noted-silent e c.note.new.self e _ _ refl c.in_ok-note.ensures.ok)
@@ -40,7 +40,7 @@ returns g c = λ H s.
     let h = c.in_ok-h.h in
     let N = c.consume_history.new.frames in
     let shown = c.row-row.ensures.shown H c.args.frame s c.in_ok-h.ensures.handle in
-    let active : is_history_active x.stamp x.second ≡ true = sym (c.history_active.ensures ∙ ap (λ t. is_history_active t c.second.result) c.stamp.ensures ∙ ap (is_history_active x.stamp) c.second.ensures) ∙ c.if-not-history_active.false in
+    let active : is_history_active x.stamp x.second ≡ true = sym c.history_active.ensures ∙ c.if-not-history_active.false in
     let says : answer_of e.duration T c.args.now (event.History c.args.frame) ≡ answer.Allowed = history-answer c.engine_laws.ensures.history e.duration T c.args.now c.args.frame x shown ∙ ap answer_of_history_action active in
     let n = noted e c.note-2.new.self _ _ _ N c.self.view_is c.in_ok-note-2.ensures.ok in
     let (y, found) = some-of (entry_of e.frames.entries h) c.in_ok-h.ensures.found in

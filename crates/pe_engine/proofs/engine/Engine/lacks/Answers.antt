@@ -27,7 +27,7 @@ returns-then-not-transient g c = λ H f d word name s at shown named.
     let same : x.doc ≡ d = same-document T f d x is shown in
     let denied = c.why_denied.ensures T d (subst (λ k. HasPolicy T k x.policy) same is.row.settled.policy) ∙ ap (λ k. why_denied T k d) c.feature_of.ensures in
     let active : has_transient e.duration T c.args.now d ≡ c.transient.result = transient-at c.engine_laws.ensures.history e.duration T c.args.now f d x is.row same
-    ∙ sym (c.transient.ensures ∙ ap (is_transient c.self.inside.duration c.args.now) c.stamp.ensures ∙ ap (λ (v : EngineValue). is_transient v.duration c.args.now x.stamp) c.self.view_is) in
+    ∙ sym (c.transient.ensures ∙ ap (λ (v : EngineValue). is_transient v.duration c.args.now x.stamp) c.self.view_is) in
     sym (reason-transient e.duration T c.args.now d word name c.args.capability false named (sym c.in_default.is ∙ denied) (active ∙ c.if-not-transient.true))
 
 pub returns : goal.returns
@@ -39,5 +39,5 @@ returns g c = λ H f d word name s at shown named.
     let same : x.doc ≡ d = same-document T f d x is shown in
     let denied = c.why_denied.ensures T d (subst (λ k. HasPolicy T k x.policy) same is.row.settled.policy) ∙ ap (λ k. why_denied T k d) c.feature_of.ensures in
     let active : has_transient e.duration T c.args.now d ≡ c.transient.result = transient-at c.engine_laws.ensures.history e.duration T c.args.now f d x is.row same
-    ∙ sym (c.transient.ensures ∙ ap (is_transient c.self.inside.duration c.args.now) c.stamp.ensures ∙ ap (λ (v : EngineValue). is_transient v.duration c.args.now x.stamp) c.self.view_is) in
+    ∙ sym (c.transient.ensures ∙ ap (λ (v : EngineValue). is_transient v.duration c.args.now x.stamp) c.self.view_is) in
     sym (reason-transient e.duration T c.args.now d word name c.args.capability true named (sym c.in_default.is ∙ denied) (active ∙ c.if-not-transient.false))

@@ -63,6 +63,7 @@ returns g c = λ H s.
     let taken = subst (λ o. IfSome o (λ z. (c.take_attributes.result ≡ z.doc.attributes) × (V ≡ with_doc e.frames h (record z.doc { attributes = no_kept_attributes })))) found clause in
     let named = sym (ap place_at c.as_slice.ensures) ∙ c.in-Ok.ensures in
     let entries = c.in-Ok-navigate.ensures.entries
+    ∙ ap (λ (z : Row). navigated h z V.entries) c.set_attributes.ensures
     ∙ ap (λ (w : Forest Row). navigated h (record x { attributes = c.take_attributes.result }) w.entries) taken.1
     ∙ navigated-anyway h (record x { attributes = c.take_attributes.result }) bare e.frames.entries
     ∙ ap (λ (a : Attributes). navigated h (record x { attributes = a }) e.frames.entries) taken.0 in
@@ -75,7 +76,7 @@ returns g c = λ H s.
     let same = same-document T e.made f h y bare e.frames.entries s.steps.tree.apart c.in_ok-number.ensures.handle (ap (λ n. document_in T n) (sym of-frame.0) ∙ of-frame.1.document) refl s.steps.tree.nodes in
     let written = ap (λ (w : Forest Row). w.entries) taken.1 in
     let gone_is = ap numbers_of (c.deref.ensures.value ∙ c.in-Ok-navigate.ensures.documents ∙ ap (λ (w : Forest Row). docs_under w.entries h) taken.1) in
-    rw (c.of.ensures, c.in_ok-origin.ensures) (ended-reply laws e p _ c.leave.new.self c.note.new.self H v f c.row-2.result.now.doc made.Doc N c.deref.result.now _ c.in_ok-before.before c.in_ok-after.after s (c.in_ok-before.ensures.passed H s c.in_ok-number.ensures.late) has
+    rw (c.of.ensures, c.in_ok-origin.ensures, c.get-2.ensures) (ended-reply laws e p _ c.leave.new.self c.note.new.self H v f c.row-2.result.now.doc made.Doc N c.deref.result.now _ c.in_ok-before.before c.in_ok-after.after s (c.in_ok-before.ensures.passed H s c.in_ok-number.ensures.late) has
     (record { ended = λ fs. refl; makes = λ i. refl; drops = λ i. refl; idle = refl; requests = λ i. refl; settles = λ i. refl }) (c.in_ok-number.ensures.rest H _ s refl ∙ other-nav T c.args.now f c.args.url.now c.args.header.now c.in-Ok.place named) says shown.document
     (λ item is. rw (has.noted.made, has.frames_are) (tree item))
     (λ item. gone-under laws.history (step_of v item) T e.made f h e.frames.entries (map (with_document h bare) e.frames.entries) c.deref.result.now s.steps.tree.apart c.in_ok-number.ensures.handle (λ fs. refl)

@@ -48,7 +48,7 @@ returns c = λ H s.
     let few : c.pages.result < 64 = c.if-pages-ge-PAGE_LIMIT.false in
     let room : nat_le 64 (length (live_pages T)) ≡ false = grind (arith, nat_tests) in
     let named = sym (ap place_at c.as_slice.ensures) ∙ c.in-Ok.ensures in
-    rw (c.frame_made.ensures, c.in_ok-origin.ensures) (accept-open c.engine_laws.ensures e c.add_page.new.self H c.args.now c.in_ok-number.number c.args.url.now c.args.header.now c.in-Ok.place c.in-Ok-top_row.row s c.in_ok-number.ensures.number named
+    rw (c.frame_made.ensures, c.in_ok-origin.ensures, c.get-2.ensures) (accept-open c.engine_laws.ensures e c.add_page.new.self H c.args.now c.in_ok-number.number c.args.url.now c.args.header.now c.in-Ok.place c.in-Ok-top_row.row s c.in_ok-number.ensures.number named
     (then-other T c.args.now (event.OpenPage c.args.url.now c.args.header.now) (c.in_ok-number.ensures.none H s) (no-object T (event.OpenPage c.args.url.now c.args.header.now) refl)
     ∙ other-open T c.args.now c.args.url.now c.args.header.now c.in-Ok.place named room)
     (subst (λ o. IsTopRow c.in_ok-number.number c.in-Ok.place o c.in-Ok-top_row.row) c.get.ensures c.in-Ok-top_row.ensures) c.in_ok-add_page.ensures)

@@ -26,4 +26,4 @@ returns g c = λ H s.
     let h = c.in_ok-h.h in
     let at = ap (handle_at e.made) (sym c.get.ensures.value) ∙ sym c.handle.ensures ∙ c.in_ok-h.was in
     let node = ap (λ (v : EngineValue). node_of v.frames.entries h) (sym c.self.view_is) ∙ sym c.in_ok-node.ensures.value in
-    sym ((shown-at e H c.args.page h c.in_ok-node.node.now s at node).document)
+    rw c.get-2.ensures (sym ((shown-at e H c.args.page h c.in_ok-node.node.now s at node).document))
